@@ -1,0 +1,154 @@
+#include "generate.h"
+
+#include <assert.h>
+
+#include "image.h"
+#include "make.h"
+#include "pick.h"
+
+/* --- The table of choices */
+
+struct choice {
+    unsigned weight; /* how often it is drawn, against the sum of all */
+    maker *make;
+    uint32_t subject;
+};
+
+static const struct choice choices[] = {
+    { 40, make_opening, 0 },
+    { 4, make_closing, 0 },
+    { 1, make_ppa, 0 },
+
+    { 2, make_right_request, INFO_REQ },
+    { 2, make_right_request, TOKEN_REQ },
+    { 60, make_right_request, ATTACH_REQ },
+    { 2, make_right_request, DETACH_REQ },
+    { 60, make_right_request, BIND_REQ },
+    { 3, make_right_request, UNBIND_REQ },
+    { 8, make_right_request, CONNECT_REQ },
+    { 10, make_right_request, CONNECT_RES },
+    { 4, make_right_request, DISCONNECT_REQ },
+    { 8, make_right_request, RESET_REQ },
+    { 6, make_right_request, RESET_RES },
+
+    { 4, make_wrong_request, ATTACH_REQ },
+    { 16, make_wrong_request, BIND_REQ },
+    { 8, make_wrong_request, CONNECT_REQ },
+    { 16, make_wrong_request, CONNECT_RES },
+    { 6, make_wrong_request, DISCONNECT_REQ },
+    { 16, make_misplaced_request, 0 },
+    { 6, make_cut_request, 0 },
+
+    { 3, make_unsupported, 0 },
+    { 4, make_other_code, 0 },
+    { 12, make_any_length, 0 },
+    { 3, make_padded, 0 },
+
+    { 40, make_call, 0 },
+    { 5, make_call_too_many, 0 },
+    { 3, make_call_for_nobody, 0 },
+    { 10, make_right_event, 'A' },
+    { 4, make_right_event, 'D' },
+    { 4, make_right_event, 'W' },
+    { 8, make_right_event, 'R' },
+    { 6, make_right_event, 'S' },
+    { 8, make_misplaced_event, 0 },
+
+    { 5, make_for_no_stream, 0 },
+    { 3, make_again, 0 },
+};
+
+enum { CHOICES = sizeof choices / sizeof choices[0] };
+
+static_assert(CHOICES <= PLAN_WEIGHTS, "the plan has a weight for each choice");
+
+/* --- The plan of a capture */
+
+/* Most captures add one PPA to eight, some try a ninth, and some add none. */
+static unsigned plan_additions(struct dice *dice)
+{
+    if (dice_one_in(dice, 16))
+        return 0;
+    if (dice_one_in(dice, 4))
+        return PPAS + 1 + dice_below(dice, 4);
+    return 1 + dice_below(dice, PPAS);
+}
+
+static unsigned plan_streams(struct dice *dice)
+{
+    if (dice_one_in(dice, 4))
+        return STREAMS;
+    return 2 + dice_below(dice, STREAMS - 4);
+}
+
+/* Few, so that streams come to bind the same one. */
+static uint8_t plan_sap(struct dice *dice)
+{
+    static const uint8_t saps[] = { 0x00, 0x02, 0x04, 0x08, 0x42, 0x80, 0x82, 0xaa, 0xe0, 0xfe };
+    return saps[dice_below(dice, sizeof saps)];
+}
+
+static void plan_capture(struct plan *plan, struct dice *dice)
+{
+    plan->additions = plan_additions(dice);
+    plan->streams = plan_streams(dice);
+    plan->ends_reading = dice_one_in(dice, 6);
+    for (unsigned i = 0; i < PLAN_SAPS; i++)
+        plan->saps[i] = plan_sap(dice);
+    for (unsigned i = 0; i < CHOICES; i++)
+        plan->weights[i] = choices[i].weight << dice_below(dice, 4);
+}
+
+void generate_start(struct generator *generator, uint64_t seed, uint64_t calls)
+{
+    *generator = (struct generator){ .dice = dice_from_seed(seed), .calls = calls };
+    plan_capture(&generator->plan, &generator->dice);
+    (void)second_fresh(generator->table, sizeof generator->table);
+}
+
+/* --- The next record */
+
+static const struct choice *draw_choice(struct generator *generator)
+{
+    uint32_t sum = 0;
+    for (unsigned i = 0; i < CHOICES; i++)
+        sum += generator->plan.weights[i];
+    uint32_t drawn = dice_below(&generator->dice, sum);
+    unsigned i = 0;
+    while (drawn >= generator->plan.weights[i])
+        drawn -= generator->plan.weights[i++];
+    return &choices[i];
+}
+
+/* Draws until one finds something to work on, as make_ppa always does. */
+static void make_by_choice(struct generator *generator, struct record *record)
+{
+    const struct choice *choice;
+    do
+        choice = draw_choice(generator);
+    while (!choice->make(generator, choice->subject, record));
+}
+
+static void make_next(struct generator *generator, struct record *record)
+{
+    if (generator->made == generator->calls && generator->plan.ends_reading)
+        make_end_of_reading(generator, record);
+    else if (generator->made > generator->plan.additions)
+        make_by_choice(generator, record);
+    else if (dice_one_in(&generator->dice, 8))
+        make_for_no_stream(generator, 0, record);
+    else
+        make_ppa(generator, 0, record);
+}
+
+bool generate_next(struct generator *generator, struct record *record)
+{
+    uint8_t room[ROOM_SIZE];
+    if (generator->made == generator->calls)
+        return false;
+    generator->made++;
+    make_next(generator, record);
+    generator->last = *record;
+    (void)second_call(generator->table, sizeof generator->table, record->bytes, record->size, room, sizeof room);
+    return true;
+}

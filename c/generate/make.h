@@ -1,0 +1,43 @@
+/* The makers of records.
+ *
+ * A maker writes one record that its subject names (a code, a kind; 0 where it needs none), or returns false if the
+ * table as it stands gives it nothing to work on. */
+#ifndef GENERATE_MAKE_H
+#define GENERATE_MAKE_H
+
+#include "generate.h"
+
+typedef bool maker(struct generator *generator, uint32_t subject, struct record *record);
+
+/* make_table.c: PPAs, opening and closing. */
+maker make_ppa;
+maker make_opening;
+maker make_closing;
+
+/* make_request.c: complete requests. The subject is the code. */
+maker make_right_request;  /* in a state with a row */
+maker make_wrong_request;  /* in a state with a row, some of its fields wrong */
+maker make_misplaced_request; /* of any code that is served, to any stream, right or wrong */
+maker make_cut_request;    /* of any code that is served, L under its size */
+
+/* make_message.c: messages that are not requests we serve, and awkward ones. */
+maker make_unsupported;
+maker make_other_code;
+maker make_any_length;
+maker make_padded;
+
+/* make_line.c: what the line reports. The subject of an event is its kind. */
+maker make_call;
+maker make_call_too_many;
+maker make_call_for_nobody;
+maker make_right_event;
+maker make_misplaced_event;
+
+/* make_any.c: on top of the others. */
+maker make_for_no_stream;
+maker make_again;
+
+/* The one kind of record that ends the reading of a capture. */
+void make_end_of_reading(struct generator *generator, struct record *record);
+
+#endif

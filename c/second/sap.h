@@ -1,0 +1,32 @@
+/* sap.h - the SAPs and Ethernet types that may be bound, and addresses. */
+#ifndef SAP_H
+#define SAP_H
+
+#include <stdbool.h>
+#include <stddef.h>
+#include <stdint.h>
+
+#include "table.h"
+
+enum {
+    PEER_ADDRESS_SIZE = 7,    /* a MAC and 1 byte of SAP */
+    LONGEST_ADDRESS_SIZE = 8  /* a MAC and 2 bytes of Ethernet type */
+};
+
+/* An even unreserved number under 256. */
+bool second_is_sap(uint32_t value);
+
+/* An unreserved Ethernet type. */
+bool second_is_type(uint32_t value);
+
+/*
+ * The length of a bound stream's SAP, 1 or 2. The form follows from the
+ * number, not from the mode.
+ */
+size_t second_sap_length(uint16_t sap);
+
+/* Writes a bound stream's address and returns its length. */
+size_t second_address(const uint8_t mac[MAC_SIZE], uint16_t sap,
+                      uint8_t address[LONGEST_ADDRESS_SIZE]);
+
+#endif

@@ -1,0 +1,50 @@
+/*
+ * second.h - a DLPI provider in plain C: the public calls.
+ *
+ * The caller owns the table. It lends the table's image to each call as a run
+ * of SECOND_TABLE_SIZE bytes, together with the bytes of one record and a room
+ * for the records out. The three must not overlap. They may stand at any
+ * address, and a pointer may be NULL where its length is 0.
+ *
+ * Building, from this directory:
+ *   replay program:  every .c file except selftest.c
+ *   self test:       every .c file except main.c
+ *   provider alone:  every .c file except main.c, replay.c and selftest.c
+ */
+#ifndef SECOND_H
+#define SECOND_H
+
+#include <stddef.h>
+#include <stdint.h>
+
+#define SECOND_TABLE_SIZE 760
+
+/* A call needs this much room, however little it writes. */
+#define SECOND_ROOM_SIZE 128
+
+/*
+ * Makes the image of a fresh table. Returns 0, or 16 with nothing written
+ * where the length is not SECOND_TABLE_SIZE.
+ */
+uint32_t second_fresh(uint8_t *table, size_t table_len);
+
+/*
+ * One call: reads the one record at the start of the lent bytes. The answer:
+ *   bits 0-15   how many bytes were written into the room
+ *   bits 16-23  the refusal number, 0 if the call is served
+ *   bits 24-31  the token of the stream that a served O opened, else 0
+ * A refusal changes neither table nor room. The records out are written right
+ * behind one another from the start of the room; its other bytes stay.
+ */
+uint32_t second_call(uint8_t *table, size_t table_len,
+                     const uint8_t *record, size_t record_len,
+                     uint8_t *room, size_t room_len);
+
+/*
+ * The size of the record at the start of the lent bytes, its kind included;
+ * 0 where reading ends there: no bytes, unknown kind or cut body. Nonzero
+ * padding and an L over 96 do not end the reading.
+ */
+uint32_t second_record_size(const uint8_t *record, size_t record_len);
+
+#endif

@@ -1,0 +1,1 @@
+// Choices and counts, as definitions alone: see specs/.

@@ -1,0 +1,119 @@
+-- 'What the base serves': the streams, the PPAs, the table.
+use Prim.Native.Nat.{ℕ, suc}
+use mathlib.Core.Bool.{Bool, true, false, not}
+use mathlib.Core.List.{List, [], _∷_, _++_, map}
+use lib.ListN.{getD, set, replicate}
+use lib.Dec.{eqb, leb}
+use Rattle.ledger.specs.Tally.{has, firstOf}
+use Rattle.paper.specs.declared.State.{State}
+use Rattle.paper.specs.declared.State.the-variants.{Unattached, Unbound, Idle, OutconPending, InconPending, DataXfer, UserResetPending, ProvResetPending}
+use Rattle.paper.specs.declared.Stream.{Stream}
+use Rattle.paper.specs.declared.PpaNumber.{PpaNumber}
+use Rattle.paper.specs.declared.Ppa.{Ppa}
+use Rattle.paper.specs.declared.Token.{Token}
+
+-- The states that stand between calls, by their numbers in the manual's state table. Every acknowledgement is given
+-- inside the call that asks, so the states that only wait for one are not among them.
+abbrev pub numberOf : State → ℕ
+numberOf Unattached = 0
+numberOf Unbound = 3
+numberOf Idle = 6
+numberOf OutconPending = 8
+numberOf InconPending = 9
+numberOf DataXfer = 11
+numberOf UserResetPending = 12
+numberOf ProvResetPending = 13
+
+abbrev pub number : Stream → ℕ
+number s = numberOf (s .state)
+
+abbrev pub isIn : ℕ → Stream → Bool
+isIn n s = eqb (number s) n
+
+-- A stream is bound from state 6 on.
+abbrev pub isBound : Stream → Bool
+isBound s = leb 6 (number s)
+
+-- A stream that holds nothing: one just opened, or a closed one.
+abbrev pub noStream : Stream
+noStream = record { state = Unattached; mode = 0; sap = 0; ppa = record { 0 = 0 }; granted = 0 }
+
+abbrev pub inState : State → Stream → Stream
+inState q s = record { state = q; mode = s .mode; sap = s .sap; ppa = s .ppa; granted = s .granted }
+
+-- One of the table's streams: open or not, how it stands, and the numbers of its open indications, oldest first.
+pub record Slot : Type 0 where
+  pub isOpen : Bool
+  pub stream : Stream
+  pub waiting : List ℕ
+
+abbrev pub closed : Slot
+closed = record { isOpen = false; stream = noStream; waiting = [] }
+
+abbrev pub justOpened : Slot
+justOpened = record { isOpen = true; stream = noStream; waiting = [] }
+
+-- A table has 16 streams, numbered 0 to 15, and at most 8 PPAs, each with a 4-byte number and a 6-byte MAC.
+-- It remembers whether a stream was ever opened, and has one counter for correlation numbers.
+pub record Table : Type 0 where
+  pub remembers : Bool
+  pub counter : ℕ
+  pub ppas : List Ppa
+  pub slots : List Slot
+
+-- A fresh table has neither.
+abbrev pub fresh : Table
+fresh = record { remembers = false; counter = 1; ppas = []; slots = replicate 16 closed }
+
+-- The stream with a number. Past the table's end there is none that is open.
+abbrev pub slot : Table → ℕ → Slot
+slot t i = getD (t .slots) i closed
+
+abbrev pub stream : Table → ℕ → Stream
+stream t i = slot t i .stream
+
+abbrev pub waiting : Table → ℕ → List ℕ
+waiting t i = slot t i .waiting
+
+-- Opening takes the lowest free stream; a closed stream is free again. (16 where none is free.)
+unfoldable pub lowestFree : Table → ℕ
+lowestFree t = firstOf (λ (x : Slot). not (x .isOpen)) (t .slots)
+
+-- A stream's token is its number plus 1.
+abbrev pub tokenOf : ℕ → Token
+tokenOf i = record { 0 = suc i }
+
+-- The PPAs: their numbers, whether one is there, its MAC.
+abbrev pub ppaNumbers : Table → List ℕ
+ppaNumbers t = map (λ (p : Ppa). p .number .0) (t .ppas)
+
+unfoldable pub knows : Table → PpaNumber → Bool
+knows t p = has (p .0) (ppaNumbers t)
+
+abbrev pub noPpa : Ppa
+noPpa = record { number = record { 0 = 0 }; mac = replicate 6 0 }
+
+unfoldable pub macOf : Table → PpaNumber → List ℕ
+macOf t p = getD (t .ppas) (firstOf (λ (q : Ppa). eqb (q .number .0) (p .0)) (t .ppas)) noPpa .mac
+
+-- ---- the table with one thing changed
+unfoldable pub withSlot : Table → ℕ → Slot → Table
+withSlot t i x = record { remembers = t .remembers; counter = t .counter; ppas = t .ppas; slots = set (t .slots) i x }
+
+-- a stream and its open numbers
+unfoldable pub withCalls : Table → ℕ → Stream → List ℕ → Table
+withCalls t i s w = withSlot t i (record { isOpen = slot t i .isOpen; stream = s; waiting = w })
+
+-- a stream alone
+unfoldable pub withStream : Table → ℕ → Stream → Table
+withStream t i s = withCalls t i s (waiting t i)
+
+unfoldable pub withCounter : Table → ℕ → Table
+withCounter t n = record { remembers = t .remembers; counter = n; ppas = t .ppas; slots = t .slots }
+
+unfoldable pub withPpa : Table → Ppa → Table
+withPpa t p = record { remembers = t .remembers; counter = t .counter; ppas = t .ppas ++ (p ∷ []); slots = t .slots }
+
+-- the table remembers an opening
+unfoldable pub remembering : Table → Table
+remembering t = record { remembers = true; counter = t .counter; ppas = t .ppas; slots = t .slots }

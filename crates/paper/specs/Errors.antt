@@ -1,0 +1,228 @@
+-- 'Answers with ERROR_ACK': the codes, and the order in which the rules are tested. First that applies.
+use Prim.Native.Nat.{ℕ, suc, _+_, _-_, _%_}
+use mathlib.Core.Bool.{Bool, not}
+use mathlib.Core.List.{List}
+use lib.ListN.{length}
+use lib.Dec.{eqb, ltb}
+use Rattle.ledger.specs.Choice.{both, either, _⇒_∣_}
+use Rattle.ledger.specs.Tally.{has}
+use Rattle.paper.specs.Base.{number, isIn, Table, slot, stream, waiting, knows}
+use Rattle.paper.specs.Saps.{isSap, isType, grantOf, isListenedFor}
+use Rattle.paper.specs.Rows.{hasRow}
+use Rattle.paper.specs.declared.Correlation.{Correlation}
+use Rattle.paper.specs.declared.PpaNumber.{PpaNumber}
+use Rattle.paper.specs.declared.Token.{Token}
+use Rattle.paper.specs.declared.Stream.{Stream}
+use Rattle.paper.specs.declared.BindRequest.{BindRequest}
+use Rattle.paper.specs.declared.ConnectRequest.{ConnectRequest}
+use Rattle.paper.specs.declared.ConnectResponse.{ConnectResponse}
+use Rattle.paper.specs.declared.DisconnectRequest.{DisconnectRequest}
+use Rattle.paper.specs.declared.Request.{Request}
+use Rattle.paper.specs.declared.Request.the-variants as request
+use Rattle.paper.specs.declared.Rule.{Rule}
+use Rattle.paper.specs.declared.Rule.the-variants as rule
+use Rattle.paper.specs.declared.Carrier.{Carrier}
+use Rattle.paper.specs.declared.Carrier.the-variants.{Itself, Other, None}
+use Rattle.paper.specs.declared.Row.{Row}
+use Rattle.paper.specs.declared.Row.the-variants as row
+use Rattle.paper.specs.declared.Asked.{Asked}
+use Rattle.paper.specs.declared.Asked.the-variants.{For, Wrong}
+use Rattle.paper.specs.declared.Verdict.{Verdict}
+use Rattle.paper.specs.declared.Verdict.the-variants.{Serves, Fails}
+
+-- The codes.
+abbrev pub badAddr : ℕ
+badAddr = 1
+
+abbrev pub access : ℕ
+access = 2
+
+abbrev pub outState : ℕ
+outState = 3
+
+abbrev pub badCorr : ℕ
+badCorr = 5
+
+abbrev pub unsupported : ℕ
+unsupported = 7
+
+abbrev pub badPpa : ℕ
+badPpa = 8
+
+abbrev pub badPrim : ℕ
+badPrim = 9
+
+abbrev pub badQosType : ℕ
+badQosType = 0x0b
+
+abbrev pub badToken : ℕ
+badToken = 0x0c
+
+abbrev pub bound : ℕ
+bound = 0x0d
+
+abbrev pub notSupported : ℕ
+notSupported = 0x12
+
+abbrev pub noAuto : ℕ
+noAuto = 0x16
+
+abbrev pub pending : ℕ
+pending = 0x1b
+
+-- The error that each rule answers with,
+abbrev pub errorOf : Rule → ℕ
+errorOf rule.NotSupported = notSupported
+errorOf rule.NotServed = badPrim
+errorOf rule.TooShort = badPrim
+errorOf rule.NoRow = outState
+errorOf rule.UnknownPpa = badPpa
+errorOf rule.UnknownMode = unsupported
+errorOf rule.Management = unsupported
+errorOf rule.AutomaticXid = noAuto
+errorOf rule.SapNotAllowed = badAddr
+errorOf rule.TypeInModeOne = unsupported
+errorOf rule.ListenedFor = bound
+errorOf rule.ConnectQos = badQosType
+errorOf rule.AddressLength = badAddr
+errorOf rule.AddressTooEarly = badAddr
+errorOf rule.AddressTooLate = badAddr
+errorOf rule.AddressSapOdd = badAddr
+errorOf rule.AcceptNotOpen = badCorr
+errorOf rule.AcceptQos = badQosType
+errorOf rule.OthersOpen = pending
+errorOf rule.TokenOfNone = badToken
+errorOf rule.CarrierNotIdle = outState
+errorOf rule.CarrierOfOtherPpa = access
+errorOf rule.CarrierConnectionless = access
+errorOf rule.DenialNotOpen = badCorr
+errorOf rule.NumberNotZero = badCorr
+
+-- and the step of the order that it belongs to.
+abbrev pub stepOf : Rule → ℕ
+stepOf rule.NotSupported = 1
+stepOf rule.NotServed = 1
+stepOf rule.TooShort = 1
+stepOf rule.NoRow = 2
+stepOf rule.UnknownPpa = 3
+stepOf rule.UnknownMode = 4
+stepOf rule.Management = 4
+stepOf rule.AutomaticXid = 4
+stepOf rule.SapNotAllowed = 4
+stepOf rule.TypeInModeOne = 4
+stepOf rule.ListenedFor = 4
+stepOf rule.ConnectQos = 5
+stepOf rule.AddressLength = 5
+stepOf rule.AddressTooEarly = 5
+stepOf rule.AddressTooLate = 5
+stepOf rule.AddressSapOdd = 5
+stepOf rule.AcceptNotOpen = 6
+stepOf rule.AcceptQos = 6
+stepOf rule.OthersOpen = 6
+stepOf rule.TokenOfNone = 6
+stepOf rule.CarrierNotIdle = 6
+stepOf rule.CarrierOfOtherPpa = 6
+stepOf rule.CarrierConnectionless = 6
+stepOf rule.DenialNotOpen = 7
+stepOf rule.NumberNotZero = 7
+
+-- Step 1 is `askedBy` of the messages. Step 2 is the first line of `judge`, at the end.
+
+-- 3. ATTACH: unknown PPA, BADPPA.
+unfoldable pub judgeAttach : PpaNumber → Bool → Verdict
+judgeAttach p known = not known ⇒ Fails rule.UnknownPpa ∣ Serves (row.Attach p)
+
+-- 4. BIND, where the SAP may be bound: mode 1 with a type: UNSUPPORTED. Mode 1, max_conind over 0, and another stream
+-- listens for that PPA and SAP: BOUND. (The asker, in state 3, listens for nothing.)
+unfoldable pub judgeListening : BindRequest → Bool → Verdict
+judgeListening b listened =
+    both (eqb (b .mode) 1) (isType (b .sap)) ⇒ Fails rule.TypeInModeOne
+    ∣ both (eqb (b .mode) 1) (both (ltb 0 (b .most)) listened) ⇒ Fails rule.ListenedFor
+    ∣ Serves (row.Bind (b .mode) (b .sap) (grantOf (b .mode) (b .most)))
+
+-- 4. BIND: mode not 1 or 2, or conn_mgmt not 0: UNSUPPORTED. xidtest not 0: NOAUTO. SAP neither an even unreserved
+-- number under 256 nor an unreserved type 0x600 to 0xffff: BADADDR.
+unfoldable pub judgeBind : BindRequest → Bool → Verdict
+judgeBind b listened =
+    not (either (eqb (b .mode) 1) (eqb (b .mode) 2)) ⇒ Fails rule.UnknownMode
+    ∣ not (eqb (b .management) 0) ⇒ Fails rule.Management
+    ∣ not (eqb (b .xidtest) 0) ⇒ Fails rule.AutomaticXid
+    ∣ not (either (isSap (b .sap)) (isType (b .sap))) ⇒ Fails rule.SapNotAllowed
+    ∣ judgeListening b listened
+
+-- 5. CONNECT_REQ: QOS length not 0, BADQOSTYPE. Length not 7, offset under 24, an end beyond L (the sum does not wrap),
+-- or an odd SAP: BADADDR.
+unfoldable pub judgeConnect : ConnectRequest → Verdict
+judgeConnect c =
+    not (eqb (c .qos) 0) ⇒ Fails rule.ConnectQos
+    ∣ not (eqb (c .length) 7) ⇒ Fails rule.AddressLength
+    ∣ ltb (c .offset) 24 ⇒ Fails rule.AddressTooEarly
+    ∣ ltb (c .size) (c .offset + 7) ⇒ Fails rule.AddressTooLate
+    ∣ eqb (c .last % 2) 1 ⇒ Fails rule.AddressSapOdd
+    ∣ Serves (row.Connect (c .offset))
+
+-- 6. Token 0 or one's own means this stream. Otherwise it is the token of an open stream, or of none.
+unfoldable pub carrierOf : Table → ℕ → Token → Carrier
+carrierOf t i k =
+    either (eqb (k .0) 0) (eqb (k .0) (suc i)) ⇒ Itself
+    ∣ slot t (k .0 - 1) .isOpen ⇒ Other (k .0 - 1) (stream t (k .0 - 1))
+    ∣ None
+
+-- 6. That stream not in state 6, OUTSTATE; another PPA or mode 2, ACCESS.
+unfoldable pub judgeOther : Stream → Correlation → ℕ → Stream → Verdict
+judgeOther s n c x =
+    not (isIn 6 x) ⇒ Fails rule.CarrierNotIdle
+    ∣ not (eqb (x .ppa .0) (s .ppa .0)) ⇒ Fails rule.CarrierOfOtherPpa
+    ∣ eqb (x .mode) 2 ⇒ Fails rule.CarrierConnectionless
+    ∣ Serves (row.AcceptOn n c)
+
+-- 6. This stream: with more than one open, PENDING. Token of no open stream, BADTOKEN.
+unfoldable pub judgeCarrier : Stream → Correlation → ℕ → Carrier → Verdict
+judgeCarrier s n count Itself = ltb 1 count ⇒ Fails rule.OthersOpen ∣ Serves (row.AcceptHere n)
+judgeCarrier s n count None = Fails rule.TokenOfNone
+judgeCarrier s n count (Other c x) = judgeOther s n c x
+
+-- 6. CONNECT_RES: number not open here, BADCORR. QOS length not 0, BADQOSTYPE.
+unfoldable pub judgeAccept : Stream → ConnectResponse → Bool → ℕ → Carrier → Verdict
+judgeAccept s a isOpen count carrier =
+    not isOpen ⇒ Fails rule.AcceptNotOpen
+    ∣ not (eqb (a .qos) 0) ⇒ Fails rule.AcceptQos
+    ∣ judgeCarrier s (a .correlation) count carrier
+
+-- 7. DISCONNECT_REQ: in state 9 a number not open here, elsewhere a number not 0: BADCORR.
+unfoldable pub judgeDenial : DisconnectRequest → Bool → Verdict
+judgeDenial d isOpen = not isOpen ⇒ Fails rule.DenialNotOpen ∣ Serves (row.Deny (d .correlation) (d .reason))
+
+unfoldable pub judgeDisconnect : Stream → DisconnectRequest → Bool → Verdict
+judgeDisconnect s d isOpen =
+    isIn 9 s ⇒ judgeDenial d isOpen
+    ∣ not (eqb (d .correlation .0) 0) ⇒ Fails rule.NumberNotZero
+    ∣ Serves (row.Disconnect (d .reason))
+
+-- a number is open on a stream
+unfoldable pub isWaiting : Table → ℕ → Correlation → Bool
+isWaiting t i n = has (n .0) (waiting t i)
+
+-- Steps 3 to 7, by the request: what each asks of the table stands beside it.
+unfoldable pub judgeServed : Table → ℕ → Request → Verdict
+judgeServed t i request.Info = Serves row.Inform
+judgeServed t i request.Token = Serves row.TellToken
+judgeServed t i (request.Attach p) = judgeAttach p (knows t p)
+judgeServed t i request.Detach = Serves row.Detach
+judgeServed t i (request.Bind b) = judgeBind b (isListenedFor t (stream t i .ppa) (b .sap))
+judgeServed t i request.Unbind = Serves row.Unbind
+judgeServed t i (request.Connect c) = judgeConnect c
+judgeServed t i (request.ConnectRes a) =
+    judgeAccept (stream t i) a (isWaiting t i (a .correlation)) (length (waiting t i)) (carrierOf t i (a .token))
+judgeServed t i (request.Disconnect d) = judgeDisconnect (stream t i) d (isWaiting t i (d .correlation))
+judgeServed t i request.Reset = Serves row.Reset
+judgeServed t i request.ResetRes = Serves row.ResetRes
+
+-- 2. No state row: OUTSTATE.
+unfoldable pub judge : Table → ℕ → Request → Verdict
+judge t i q = not (hasRow (stream t i) q) ⇒ Fails rule.NoRow ∣ judgeServed t i q
+
+-- The order of errors as a whole, on a message of stream i: the first rule that applies, or the row that serves.
+abbrev pub verdictOn : Table → ℕ → Asked → Verdict
+verdictOn t i (Wrong r) = Fails r
+verdictOn t i (For q) = judge t i q

@@ -1,0 +1,75 @@
+-- 'Messages', the ones up: the fields after the code, then what stands behind them.
+use Prim.Native.Nat.{ℕ, _+_, _-_, _/_, _%_, _^_}
+use mathlib.Core.Bool.{Bool, true, false}
+use mathlib.Core.List.{List, [], _∷_, _++_}
+use lib.ListN.{length, replicate}
+use lib.Dec.{ltb}
+use Rattle.ledger.specs.Choice.{pick}
+use Rattle.octets.specs.Blocks.{flat}
+use Rattle.paper.specs.Base.{number, isBound}
+use Rattle.paper.specs.declared.Stream.{Stream}
+use Rattle.paper.specs.declared.Reply.{Reply}
+use Rattle.paper.specs.declared.Reply.the-variants.{InfoAck, BindAck, ErrorAck, OkAck, ConnectInd, ConnectCon, TokenAck, DisconnectInd, ResetInd, ResetCon}
+
+-- The originator is always the same.
+abbrev pub originator : ℕ
+originator = 0x0701
+
+-- An address is the MAC, then 1 byte of SAP or 2 of Ethernet type.
+abbrev pub sapBytes : ℕ → List ℕ
+sapBytes sap = pick (ltb sap 256) (sap ∷ []) (sap / 256 ∷ sap % 256 ∷ [])
+
+unfoldable pub addressOf : List ℕ → ℕ → List ℕ
+addressOf mac sap = mac ++ sapBytes sap
+
+abbrev pub sapLength : ℕ → ℕ
+sapLength sap = pick (ltb sap 256) 1 2
+
+abbrev pub addressLength : ℕ → ℕ
+addressLength sap = 6 + sapLength sap
+
+-- INFO_ACK. Unbound: address length, SAP length and address offset 0, mode 3. Bound: address offset 76, the SAP length
+-- is minus 1 or minus 2 in two's complement, the bound mode.
+abbrev pub infoFields : ℕ → ℕ → ℕ → ℕ → ℕ → List ℕ
+infoFields state address sap mode offset =
+    1497 ∷ 0 ∷ address ∷ 0 ∷ 0 ∷ state ∷ sap ∷ mode ∷ 0 ∷ 0 ∷ 0 ∷ 0 ∷ 0x0501 ∷ offset ∷ 2 ∷ 6 ∷ (76 + address) ∷ 0 ∷ []
+
+unfoldable pub infoOf : Stream → List ℕ
+infoOf s =
+    pick (isBound s)
+    (infoFields (number s) (addressLength (s .sap)) (2 ^ 32 - sapLength (s .sap)) (s .mode) 76)
+    (infoFields (number s) 0 0 3 0)
+
+-- then the address if bound, then six bytes of 0xff
+unfoldable pub infoTail : List ℕ → Stream → List ℕ
+infoTail mac s = pick (isBound s) (addressOf mac (s .sap)) [] ++ replicate 6 0xff
+
+-- The code, and the fields after it.
+abbrev pub fieldsOf : Reply → List ℕ
+fieldsOf (InfoAck s) = 0x03 ∷ infoOf s
+fieldsOf (BindAck sap granted) = 0x04 ∷ sap ∷ addressLength sap ∷ 24 ∷ granted ∷ 0 ∷ []
+fieldsOf (ErrorAck code error) = 0x05 ∷ code ∷ error ∷ 0 ∷ []
+fieldsOf (OkAck code) = 0x06 ∷ code ∷ []
+fieldsOf (ConnectInd n) = 0x0e ∷ n .0 ∷ 7 ∷ 36 ∷ 7 ∷ 43 ∷ 0 ∷ 0 ∷ 0 ∷ []
+fieldsOf ConnectCon = 0x10 ∷ 7 ∷ 24 ∷ 0 ∷ 0 ∷ 0 ∷ []
+fieldsOf (TokenAck k) = 0x12 ∷ k .0 ∷ []
+fieldsOf (DisconnectInd reason n) = 0x14 ∷ originator ∷ reason ∷ n .0 ∷ []
+fieldsOf (ResetInd reason) = 0x18 ∷ originator ∷ reason ∷ []
+fieldsOf ResetCon = 0x1a ∷ []
+
+-- the L bytes of a message up
+unfoldable pub contentOf : Reply → List ℕ → List ℕ
+contentOf reply tail = flat (fieldsOf reply) ++ tail
+
+-- Codes 0x03 to 0x06 and 0x12 go up as C, the other replies as P.
+abbrev pub goesAsC : Reply → Bool
+goesAsC (InfoAck s) = true
+goesAsC (BindAck sap granted) = true
+goesAsC (ErrorAck code error) = true
+goesAsC (OkAck code) = true
+goesAsC (ConnectInd n) = false
+goesAsC ConnectCon = false
+goesAsC (TokenAck k) = true
+goesAsC (DisconnectInd reason n) = false
+goesAsC (ResetInd reason) = false
+goesAsC ResetCon = false

@@ -1,0 +1,237 @@
+// The rule paper's quantities, states, requests, rules, rows and records, as values. What each means stands in specs/.
+
+// What the paper calls unlike quantities: no one can stand for another.
+pub struct Token(pub u32);
+
+pub struct Correlation(pub u32);
+
+pub struct PpaNumber(pub u32);
+
+pub struct Ppa {
+    pub number: PpaNumber,
+    pub mac: [u8; 6],
+}
+
+// The states that stand between calls.
+pub enum State {
+    Unattached,
+    Unbound,
+    Idle,
+    OutconPending,
+    InconPending,
+    DataXfer,
+    UserResetPending,
+    ProvResetPending,
+}
+
+// An open stream, but for the numbers of its open indications. What it does not hold is zero.
+pub struct Stream {
+    pub state: State,
+    pub mode: u8,
+    pub sap: u16,
+    pub ppa: PpaNumber,
+    pub granted: u8,
+}
+
+// The kinds of record in.
+pub enum Kind {
+    AddPpa,
+    Open,
+    Close,
+    Message,
+    CallArrives,
+    PeerAccepted,
+    PeerGone,
+    CallWithdrawn,
+    PeerReset,
+    ResetConfirmed,
+    Unknown,
+}
+
+// A record in, read. Addresses and blocks stay where they lie in the record.
+pub enum Input {
+    // no bytes, unknown kind or cut body: reading ends there
+    Unreadable,
+    // nonzero padding with L at most 96: reading goes on
+    Padded,
+    AddPpa(PpaNumber),
+    Open,
+    Close(u8),
+    // the stream and L
+    Message(u8, u8),
+    // the PPA and the called SAP
+    CallArrives(PpaNumber, u8),
+    PeerAccepted(u8),
+    // the stream and the reason
+    PeerGone(u8, u32),
+    CallWithdrawn(u8, Correlation, u32),
+    PeerReset(u8, u32),
+    ResetConfirmed(u8),
+}
+
+// The messages of the paper's table that a user sends, by their code.
+pub enum Primitive {
+    Info,
+    Attach,
+    Detach,
+    Bind,
+    Unbind,
+    Connect,
+    ConnectRes,
+    Token,
+    Disconnect,
+    Reset,
+    ResetRes,
+    // the eight codes of step 1
+    NotSupported,
+    // every other code
+    NotServed,
+}
+
+pub struct BindRequest {
+    pub sap: u32,
+    pub most: u32,
+    pub mode: u16,
+    pub management: u16,
+    pub xidtest: u32,
+}
+
+// `size` is L; `last` the byte where the address would end.
+pub struct ConnectRequest {
+    pub length: u32,
+    pub offset: u32,
+    pub qos: u32,
+    pub size: u8,
+    pub last: u8,
+}
+
+pub struct ConnectResponse {
+    pub correlation: Correlation,
+    pub token: Token,
+    pub qos: u32,
+}
+
+pub struct DisconnectRequest {
+    pub reason: u32,
+    pub correlation: Correlation,
+}
+
+// A message that is served as a request and is of full size.
+pub enum Request {
+    Info,
+    Attach(PpaNumber),
+    Detach,
+    Bind(BindRequest),
+    Unbind,
+    Connect(ConnectRequest),
+    ConnectRes(ConnectResponse),
+    Token,
+    Disconnect(DisconnectRequest),
+    Reset,
+    ResetRes,
+}
+
+// The rules that fail, in the order in which the paper tests them.
+pub enum Rule {
+    // step 1
+    NotSupported,
+    NotServed,
+    TooShort,
+    // step 2
+    NoRow,
+    // step 3
+    UnknownPpa,
+    // step 4
+    UnknownMode,
+    Management,
+    AutomaticXid,
+    SapNotAllowed,
+    TypeInModeOne,
+    ListenedFor,
+    // step 5
+    ConnectQos,
+    AddressLength,
+    AddressTooEarly,
+    AddressTooLate,
+    AddressSapOdd,
+    // step 6
+    AcceptNotOpen,
+    AcceptQos,
+    OthersOpen,
+    TokenOfNone,
+    CarrierNotIdle,
+    CarrierOfOtherPpa,
+    CarrierConnectionless,
+    // step 7
+    DenialNotOpen,
+    NumberNotZero,
+}
+
+// What a message with a code comes to: a request, or a rule of step 1 that fails.
+pub enum Asked {
+    For(Request),
+    Wrong(Rule),
+}
+
+// What the token of an accept names.
+pub enum Carrier {
+    Itself,
+    // another open stream, and how it stands
+    Other(u8, Stream),
+    None,
+}
+
+// The rows that serve, with the values that they need.
+pub enum Row {
+    Inform,
+    Attach(PpaNumber),
+    Detach,
+    // mode, SAP, count granted
+    Bind(u8, u16, u8),
+    Unbind,
+    // where the address begins in the message
+    Connect(u8),
+    AcceptHere(Correlation),
+    // the carrying stream
+    AcceptOn(Correlation, u8),
+    TellToken,
+    // the reason
+    Deny(Correlation, u32),
+    Disconnect(u32),
+    Reset,
+    ResetRes,
+}
+
+// What the order of errors comes to.
+pub enum Verdict {
+    Serves(Row),
+    Fails(Rule),
+}
+
+// Orders to the line, each with its stream first.
+pub enum LineOrder {
+    Connect(u8),
+    Accept(u8, Correlation),
+    // the reason
+    Disconnect(u8, Correlation, u32),
+    Reset(u8),
+    ResetAnswer(u8),
+}
+
+// Messages up.
+pub enum Reply {
+    InfoAck(Stream),
+    // SAP, count granted
+    BindAck(u16, u8),
+    // the request's code, the error
+    ErrorAck(u32, u32),
+    // the request's code
+    OkAck(u32),
+    ConnectInd(Correlation),
+    ConnectCon,
+    TokenAck(Token),
+    // the reason
+    DisconnectInd(u32, Correlation),
+    ResetInd(u32),
+    ResetCon,
+}
