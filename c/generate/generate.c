@@ -58,7 +58,7 @@ static const struct choice choices[] = {
     { 3, make_again, 0 },
 };
 
-enum { CHOICES = sizeof choices / sizeof choices[0] };
+#define CHOICES (sizeof choices / sizeof choices[0])
 
 static_assert(CHOICES <= PLAN_WEIGHTS, "the plan has a weight for each choice");
 
@@ -95,7 +95,7 @@ static void plan_capture(struct plan *plan, struct dice *dice)
     plan->ends_reading = dice_one_in(dice, 6);
     for (unsigned i = 0; i < PLAN_SAPS; i++)
         plan->saps[i] = plan_sap(dice);
-    for (unsigned i = 0; i < CHOICES; i++)
+    for (size_t i = 0; i < CHOICES; i++)
         plan->weights[i] = choices[i].weight << dice_below(dice, 4);
 }
 
@@ -111,10 +111,10 @@ void generate_start(struct generator *generator, uint64_t seed, uint64_t calls)
 static const struct choice *draw_choice(struct generator *generator)
 {
     uint32_t sum = 0;
-    for (unsigned i = 0; i < CHOICES; i++)
+    for (size_t i = 0; i < CHOICES; i++)
         sum += generator->plan.weights[i];
     uint32_t drawn = dice_below(&generator->dice, sum);
-    unsigned i = 0;
+    size_t i = 0;
     while (drawn >= generator->plan.weights[i])
         drawn -= generator->plan.weights[i++];
     return &choices[i];

@@ -13,3 +13,4 @@ pub mod Rows
 pub mod Events
 pub mod Correlations
 pub mod Step
+pub mod Examples

@@ -1,0 +1,1130 @@
+/*
+ * selftest.c - checks the provider against the rule paper.
+ *
+ * Every expected value is written out from the paper. Records are written as
+ * the replay program prints them: the kind, the stream in decimal if the kind
+ * has one, then the other fields in hex. For P and C the length L and the
+ * padding follow from the hex. A semicolon stands between two records. Slots
+ * of the image are written in hex; their bytes that aren't written are zero.
+ */
+#include <ctype.h>
+#include <stdbool.h>
+#include <stdint.h>
+#include <stdio.h>
+#include <stdlib.h>
+#include <string.h>
+
+#include "replay.h"
+#include "second.h"
+
+enum {
+    GUARD = 13, /* odd, so that table and room aren't both aligned */
+    ROOM_AREA = 200,
+    TABLE_GUARD_BYTE = 0xa5,
+    ROOM_BYTE = 0x5a,
+    NEEDED_ROOM = 128,
+    LONGEST_TEXT = 1024
+};
+
+/* Where the image holds what. */
+enum {
+    MASK = 0,
+    OPENED = 2,
+    PPA_COUNT = 3,
+    COUNTER = 4,
+    PPA_PLACES = 8,
+    PPA_PLACE = 10,
+    SLOTS = 88,
+    SLOT = 42
+};
+
+struct bench {
+    unsigned passed;
+    unsigned failed;
+    const char *topic;
+    uint8_t table_area[GUARD + SECOND_TABLE_SIZE + GUARD];
+    uint8_t room_area[GUARD + ROOM_AREA + GUARD];
+    /* The table as it was before the last call, to be changed by the test
+       into what it should be after it. */
+    uint8_t want[SECOND_TABLE_SIZE];
+};
+
+static uint8_t *table_of(struct bench *b)
+{
+    return b->table_area + GUARD;
+}
+
+static uint8_t *room_of(struct bench *b)
+{
+    return b->room_area + GUARD;
+}
+
+static void check(struct bench *b, bool holds, const char *what)
+{
+    if (holds) {
+        b->passed++;
+    } else {
+        b->failed++;
+        printf("failed: %s: %s\n", b->topic, what);
+    }
+}
+
+static bool all_are(const uint8_t *bytes, size_t count, uint8_t byte)
+{
+    for (size_t i = 0; i < count; i++)
+        if (bytes[i] != byte)
+            return false;
+    return true;
+}
+
+/* ---- texts ---- */
+
+static unsigned digit(char c)
+{
+    return (unsigned)(isdigit((unsigned char)c) ? c - '0' : c - 'a' + 10);
+}
+
+/* Reads hex up to a semicolon or the end. Returns the count of bytes. */
+static size_t parse_hex(const char **text, uint8_t *bytes)
+{
+    size_t count = 0;
+
+    while (**text != '\0' && **text != ';') {
+        if (**text == ' ') {
+            (*text)++;
+            continue;
+        }
+        bytes[count++] = (uint8_t)(digit((*text)[0]) * 16 + digit((*text)[1]));
+        *text += 2;
+    }
+    return count;
+}
+
+static size_t hex(const char *text, uint8_t *bytes)
+{
+    return parse_hex(&text, bytes);
+}
+
+static size_t parse_record(const char **text, uint8_t *bytes)
+{
+    char kind = *(*text)++;
+    size_t size = 1;
+
+    bytes[0] = (uint8_t)kind;
+    if (strchr("GOI", kind) == NULL) {
+        char *after;
+
+        bytes[size++] = (uint8_t)strtoul(*text, &after, 10);
+        *text = after;
+    }
+    if (kind == 'P' || kind == 'C') {
+        memset(bytes + 2, 0, 97);
+        bytes[2] = (uint8_t)parse_hex(text, bytes + 3);
+        return 99;
+    }
+    return size + parse_hex(text, bytes + size);
+}
+
+/* Returns the size of all the records of the text together. */
+static size_t parse_records(const char *text, uint8_t *bytes)
+{
+    size_t size = 0;
+
+    while (*text != '\0') {
+        if (*text == ' ' || *text == ';')
+            text++;
+        else
+            size += parse_record(&text, bytes + size);
+    }
+    return size;
+}
+
+/* ---- images ---- */
+
+static void put_number(uint8_t *bytes, uint32_t value)
+{
+    for (int i = 3; i >= 0; i--) {
+        bytes[i] = (uint8_t)value;
+        value >>= 8;
+    }
+}
+
+static void put_mask_bit(uint8_t *image, unsigned s, bool closed)
+{
+    uint8_t *byte = &image[MASK + (s < 8 ? 1 : 0)];
+    uint8_t bit = (uint8_t)(1u << (s % 8));
+
+    *byte = (uint8_t)(closed ? *byte | bit : *byte & ~bit);
+}
+
+static void put_open(uint8_t *image, unsigned s, const char *slot)
+{
+    uint8_t *bytes = image + SLOTS + SLOT * s;
+
+    memset(bytes, 0, SLOT);
+    hex(slot, bytes);
+    put_mask_bit(image, s, false);
+}
+
+static void put_closed(uint8_t *image, unsigned s)
+{
+    memset(image + SLOTS + SLOT * s, 0, SLOT);
+    put_mask_bit(image, s, true);
+}
+
+static void put_ppa(uint8_t *image, unsigned place, const char *ppa)
+{
+    hex(ppa, image + PPA_PLACES + PPA_PLACE * place);
+    image[PPA_COUNT] = (uint8_t)(place + 1);
+}
+
+/* Two PPAs, an opening remembered, no stream open, the counter at 0x11. */
+static void start(struct bench *b)
+{
+    uint8_t *image = table_of(b);
+
+    memset(b->table_area, TABLE_GUARD_BYTE, sizeof b->table_area);
+    memset(image, 0, SECOND_TABLE_SIZE);
+    memset(image + MASK, 0xff, 2);
+    image[OPENED] = 1;
+    put_number(image + COUNTER, 0x11);
+    put_ppa(image, 0, "00000001 020000000001");
+    put_ppa(image, 1, "00000002 020000000002");
+}
+
+static void start_fresh(struct bench *b)
+{
+    memset(b->table_area, TABLE_GUARD_BYTE, sizeof b->table_area);
+    check(b, second_fresh(table_of(b), SECOND_TABLE_SIZE) == 0, "fresh table");
+}
+
+static void stand(struct bench *b, unsigned s, const char *slot)
+{
+    put_open(table_of(b), s, slot);
+}
+
+/* The table is as wanted after the last call. */
+static void same_table(struct bench *b, const char *what)
+{
+    if (memcmp(table_of(b), b->want, SECOND_TABLE_SIZE) != 0)
+        printf("the table differs after: %s\n", what);
+    check(b, memcmp(table_of(b), b->want, SECOND_TABLE_SIZE) == 0, what);
+}
+
+/* ---- calls ---- */
+
+static uint32_t one_call(struct bench *b, const uint8_t *record, size_t size,
+                         size_t room_len, const char *what)
+{
+    uint32_t answer;
+
+    memcpy(b->want, table_of(b), SECOND_TABLE_SIZE);
+    memset(b->room_area, ROOM_BYTE, sizeof b->room_area);
+    answer = second_call(table_of(b), SECOND_TABLE_SIZE, record, size,
+                         room_of(b), room_len);
+    check(b,
+          all_are(b->table_area, GUARD, TABLE_GUARD_BYTE)
+              && all_are(table_of(b) + SECOND_TABLE_SIZE, GUARD,
+                         TABLE_GUARD_BYTE)
+              && all_are(b->room_area, GUARD, ROOM_BYTE)
+              && all_are(room_of(b) + room_len, ROOM_AREA + GUARD - room_len,
+                         ROOM_BYTE),
+          what);
+    return answer;
+}
+
+static void refuse_bytes(struct bench *b, const uint8_t *record, size_t size,
+                         size_t room_len, uint32_t refusal, const char *what)
+{
+    uint32_t answer = one_call(b, record, size, room_len, what);
+
+    if (answer != refusal << 16)
+        printf("refusal %u wanted, answer %08x: %s\n", (unsigned)refusal,
+               (unsigned)answer, what);
+    check(b, answer == refusal << 16, what);
+    check(b, all_are(b->room_area, sizeof b->room_area, ROOM_BYTE), what);
+    same_table(b, what);
+}
+
+static void refuse(struct bench *b, const char *in, uint32_t refusal)
+{
+    uint8_t record[LONGEST_TEXT];
+    size_t size = parse_records(in, record);
+
+    refuse_bytes(b, record, size, NEEDED_ROOM, refusal, in);
+}
+
+static void serve_bytes(struct bench *b, const uint8_t *record, size_t size,
+                        uint32_t token, const char *out, const char *what)
+{
+    uint8_t wanted[LONGEST_TEXT];
+    size_t wanted_size = parse_records(out, wanted);
+    uint32_t wanted_answer = token << 24 | (uint32_t)wanted_size;
+    uint32_t answer = one_call(b, record, size, NEEDED_ROOM, what);
+
+    if (answer != wanted_answer)
+        printf("answer %08x wanted, %08x given: %s\n", (unsigned)wanted_answer,
+               (unsigned)answer, what);
+    check(b, answer == wanted_answer, what);
+    check(b, memcmp(room_of(b), wanted, wanted_size) == 0, what);
+    check(b,
+          all_are(room_of(b) + wanted_size, ROOM_AREA - wanted_size, ROOM_BYTE),
+          what);
+}
+
+/* The test then says what the table should be, and asks same_table. */
+static void serve(struct bench *b, const char *in, const char *out)
+{
+    uint8_t record[LONGEST_TEXT];
+    size_t size = parse_records(in, record);
+
+    serve_bytes(b, record, size, 0, out, in);
+}
+
+static void serve_open(struct bench *b, unsigned s)
+{
+    serve_bytes(b, (const uint8_t *)"O", 1, s + 1, "", "O");
+    put_open(b->want, s, "");
+    b->want[OPENED] = 1;
+    same_table(b, "O");
+}
+
+/* A request gets ERROR_ACK, on the stream that asked, and changes nothing. */
+static void error_bytes(struct bench *b, const uint8_t *record, size_t size,
+                        unsigned error, const char *what)
+{
+    char out[LONGEST_TEXT];
+
+    snprintf(out, sizeof out, "C %u 00000005 %02x%02x%02x%02x %08x 00000000",
+             record[1], record[3], record[4], record[5], record[6], error);
+    serve_bytes(b, record, size, 0, out, what);
+    same_table(b, what);
+}
+
+static void error(struct bench *b, const char *in, unsigned code)
+{
+    uint8_t record[LONGEST_TEXT];
+    size_t size = parse_records(in, record);
+
+    error_bytes(b, record, size, code, in);
+}
+
+/* A message whose L is not that of its text. */
+static size_t message(uint8_t *record, uint8_t s, uint8_t length,
+                      const char *block)
+{
+    memset(record, 0, 99);
+    record[0] = 'P';
+    record[1] = s;
+    record[2] = length;
+    hex(block, record + 3);
+    return 99;
+}
+
+/* ---- slots and messages that occur often ---- */
+
+#define UNBOUND_SLOT "03 00 0000 00000001"
+#define IDLE_SLOT "06 01 0080 00000001 02"
+#define TYPE_SLOT "06 02 0800 00000001"
+#define CALLING_SLOT "08 01 0080 00000001 02"
+#define CALLED_SLOT "09 01 0080 00000001 02 01 00000005"
+#define CONNECTED_SLOT "0b 01 0080 00000001 02"
+#define USER_RESET_SLOT "0c 01 0080 00000001 02"
+#define PEER_RESET_SLOT "0d 01 0080 00000001 02"
+
+#define BADADDR 0x01
+#define ACCESS 0x02
+#define OUTSTATE 0x03
+#define BADCORR 0x05
+#define UNSUPPORTED 0x07
+#define BADPPA 0x08
+#define BADPRIM 0x09
+#define BADQOSTYPE 0x0b
+#define BADTOKEN 0x0c
+#define BOUND 0x0d
+#define NOTSUPPORTED 0x12
+#define NOAUTO 0x16
+#define PENDING 0x1b
+
+/* INFO_ACK of an unbound stream: 82 bytes. */
+#define INFO_UNBOUND(state)                                       \
+    "00000003 000005d9 00000000 00000000 00000000 00000000 " state \
+    " 00000000 00000003 00000000 00000000 00000000 00000000 00000501" \
+    " 00000000 00000002 00000006 0000004c 00000000 ffffffffffff"
+
+/* INFO_ACK of a stream bound to SAP 0x80 of PPA 1 in mode 1: 89 bytes. */
+#define INFO_BOUND(state)                                         \
+    "00000003 000005d9 00000000 00000007 00000000 00000000 " state \
+    " ffffffff 00000001 00000000 00000000 00000000 00000000 00000501" \
+    " 0000004c 00000002 00000006 00000053 00000000 02000000000180 ffffffffffff"
+
+/* INFO_ACK of a stream bound to type 0x0800 of PPA 1 in mode 2: 90 bytes. */
+#define INFO_TYPE                                                     \
+    "00000003 000005d9 00000000 00000008 00000000 00000000 00000006" \
+    " fffffffe 00000002 00000000 00000000 00000000 00000000 00000501" \
+    " 0000004c 00000002 00000006 00000054 00000000 0200000000010800" \
+    " ffffffffffff"
+
+#define CONNECT_FIELDS "00000007 00000018 00000000 00000000 00000000"
+
+/* ---- the tests ---- */
+
+static void test_fresh(struct bench *b)
+{
+    uint8_t *image = table_of(b);
+
+    b->topic = "the fresh table";
+    start_fresh(b);
+    check(b, all_are(image, 2, 0xff), "all streams are free");
+    check(b, all_are(image + 2, 5, 0) && image[7] == 1, "the counter is 1");
+    check(b, all_are(image + 8, SECOND_TABLE_SIZE - 8, 0), "the rest is zero");
+    check(b, all_are(b->table_area, GUARD, TABLE_GUARD_BYTE), "guard before");
+    check(b, all_are(image + SECOND_TABLE_SIZE, GUARD, TABLE_GUARD_BYTE),
+          "guard behind");
+
+    memset(b->table_area, TABLE_GUARD_BYTE, sizeof b->table_area);
+    check(b, second_fresh(image, 759) == 16, "759 bytes");
+    check(b, second_fresh(image, 761) == 16, "761 bytes");
+    check(b, second_fresh(image, 0) == 16, "0 bytes");
+    check(b, second_fresh(NULL, 0) == 16, "no table");
+    check(b, all_are(b->table_area, sizeof b->table_area, TABLE_GUARD_BYTE),
+          "nothing written");
+}
+
+static void test_record_sizes(struct bench *b)
+{
+    static const struct {
+        char kind;
+        uint32_t size;
+    } kinds[] = {
+        { 'G', 11 }, { 'O', 1 }, { 'X', 2 }, { 'P', 99 }, { 'C', 99 },
+        { 'I', 19 }, { 'A', 9 }, { 'D', 6 }, { 'W', 10 }, { 'R', 6 },
+        { 'S', 2 },
+    };
+    uint8_t record[100];
+    size_t known = 0;
+
+    b->topic = "record sizes";
+    memset(record, 0xff, sizeof record);
+    for (size_t i = 0; i < sizeof kinds / sizeof kinds[0]; i++) {
+        uint32_t size = kinds[i].size;
+
+        record[0] = (uint8_t)kinds[i].kind;
+        check(b, second_record_size(record, size) == size, "whole record");
+        check(b, second_record_size(record, 100) == size, "and bytes behind");
+        check(b, second_record_size(record, size - 1) == 0, "cut body");
+    }
+    check(b, second_record_size(NULL, 0) == 0, "no bytes");
+    for (unsigned kind = 0; kind < 256; kind++) {
+        record[0] = (uint8_t)kind;
+        if (second_record_size(record, 100) != 0)
+            known++;
+    }
+    check(b, known == 11, "no other kind is known");
+}
+
+static void test_measured_info(struct bench *b)
+{
+    b->topic = "measured examples, INFO_REQ";
+    start_fresh(b);
+    serve_open(b, 0);
+    serve(b, "P 0 00000000", "C 0 " INFO_UNBOUND("00000000"));
+    same_table(b, "unattached");
+    check(b, room_of(b)[2] == 82, "unattached: L 82");
+
+    start(b);
+    stand(b, 0, UNBOUND_SLOT);
+    serve(b, "P 0 00000001 00000080 00000002 0001 0000 00000000",
+          "C 0 00000004 00000080 00000007 00000018 00000002 00000000"
+          " 02000000000180");
+    put_open(b->want, 0, IDLE_SLOT);
+    same_table(b, "bound to 0x80");
+    serve(b, "P 0 00000000", "C 0 " INFO_BOUND("00000006"));
+    check(b, room_of(b)[2] == 89, "bound to 0x80: L 89");
+
+    start(b);
+    stand(b, 0, UNBOUND_SLOT);
+    serve(b, "P 0 00000001 00000800 00000002 0002 0000 00000000",
+          "C 0 00000004 00000800 00000008 00000018 00000000 00000000"
+          " 0200000000010800");
+    put_open(b->want, 0, TYPE_SLOT);
+    same_table(b, "bound to type 0x0800");
+    serve(b, "P 0 00000000", "C 0 " INFO_TYPE);
+    check(b, room_of(b)[2] == 90, "bound to type 0x0800: L 90");
+}
+
+static void test_measured_limits(struct bench *b)
+{
+    uint8_t record[99];
+
+    b->topic = "measured examples, limits";
+    start(b);
+    stand(b, 0, UNBOUND_SLOT);
+    error(b, "P 0 00000001 00000081 00000000 0001 0000 00000000", BADADDR);
+    error(b, "P 0 00000001 000005ff 00000000 0002 0000 00000000", BADADDR);
+    stand(b, 1, "00");
+    error(b, "P 1 0000000b 000000", BADPRIM);
+    message(record, 1, 3, "000000");
+    refuse_bytes(b, record, 99, NEEDED_ROOM, 4, "L 3");
+    message(record, 1, 97, "00000000");
+    refuse_bytes(b, record, 99, NEEDED_ROOM, 5, "L 97");
+    message(record, 1, 4, "00000000");
+    refuse_bytes(b, record, 99, 127, 1, "room 127");
+}
+
+static void test_measured_connect(struct bench *b)
+{
+    b->topic = "measured examples, CONNECT_REQ";
+    start(b);
+    stand(b, 0, IDLE_SLOT);
+    error(b, "P 0 0000000d 00000007 00000019 00000000 00000000 00000000"
+             " 02000000000984", BADADDR);
+    error(b, "P 0 0000000d 00000007 ffffffff 00000000 00000000 00000000"
+             " 02000000000984", BADADDR);
+    serve(b, "P 0 0000000d 00000007 00000018 00000000 00000000 00000000"
+             " 02000000000984", "c 0 02000000000984");
+    put_open(b->want, 0, CALLING_SLOT);
+    same_table(b, "offset 24");
+}
+
+static void test_measured_counts(struct bench *b)
+{
+    b->topic = "measured examples, open indications";
+    start(b);
+    stand(b, 0, UNBOUND_SLOT);
+    serve(b, "P 0 00000001 00000080 00000009 0001 0000 00000000",
+          "C 0 00000004 00000080 00000007 00000018 00000008 00000000"
+          " 02000000000180");
+    put_open(b->want, 0, "06 01 0080 00000001 08");
+    same_table(b, "max_conind 9 grants 8");
+
+    stand(b, 0, "09 01 0080 00000001 08 08 00000001 00000002 00000003 00000004"
+                " 00000005 00000006 00000007 00000008");
+    refuse(b, "I 00000001 02000000000180 02000000000284", 8);
+
+    stand(b, 0, "09 01 0080 00000001 02 02 00000001 00000002");
+    error(b, "P 0 0000000f 00000001 00000000 00000000 00000000 00000000",
+          PENDING);
+    error(b, "P 0 0000000f 00000002 00000001 00000000 00000000 00000000",
+          PENDING);
+}
+
+/* The slips that the paper has seen. */
+static void test_slips(struct bench *b)
+{
+    b->topic = "slips";
+    start(b);
+    stand(b, 0, IDLE_SLOT);
+    error(b, "P 0 00000001 00000081 00000000 0001 0000 00000000", OUTSTATE);
+
+    start(b);
+    stand(b, 0, "09 01 0080 00000001 02 02 00000003 00000004");
+    stand(b, 1, "06 01 0082 00000001");
+    serve(b, "P 0 0000000f 00000003 00000002 00000000 00000000 00000000",
+          "a 1 00000003; C 0 00000006 0000000f");
+    put_open(b->want, 0, "09 01 0080 00000001 02 01 00000004");
+    put_open(b->want, 1, "0b 01 0082 00000001");
+    same_table(b, "the first accept of two leaves state 9");
+
+    serve(b, "X 0", "d 0 00000004 00000000");
+    put_closed(b->want, 0);
+    same_table(b, "close");
+    serve_open(b, 0);
+    serve(b, "P 0 0000000b 00000001", "C 0 00000006 0000000b");
+    put_open(b->want, 0, UNBOUND_SLOT);
+    same_table(b, "no calls open for the next opening");
+}
+
+/* ---- replay ---- */
+
+/* Writes the input to a file, replays it and compares what is printed. */
+static void replays(struct bench *b, const uint8_t *input, size_t size,
+                    const char *wanted, const char *what)
+{
+    FILE *in = tmpfile();
+    FILE *out = tmpfile();
+    size_t wanted_size = strlen(wanted);
+    char *printed = malloc(wanted_size + 2);
+    size_t printed_size;
+
+    if (in == NULL || out == NULL || printed == NULL
+        || fwrite(input, 1, size, in) != size) {
+        perror("selftest");
+        exit(1);
+    }
+    rewind(in);
+    check(b, second_replay(in, out) == REPLAY_DONE, what);
+    rewind(out);
+    printed_size = fread(printed, 1, wanted_size + 1, out);
+    printed[printed_size] = '\0';
+    if (strcmp(printed, wanted) != 0)
+        printf("wanted:\n%sprinted:\n%s", wanted, printed);
+    check(b, strcmp(printed, wanted) == 0, what);
+    free(printed);
+    fclose(in);
+    fclose(out);
+}
+
+static void replays_text(struct bench *b, const char *input, const char *wanted)
+{
+    uint8_t bytes[2 * LONGEST_TEXT];
+    size_t size = parse_records(input, bytes);
+
+    replays(b, bytes, size, wanted, input);
+}
+
+static void test_replay_examples(struct bench *b)
+{
+    b->topic = "replay";
+    replays_text(b,
+        "G 00000001 020000000001; O; P 0 0000000b 00000001;"
+        "P 0 00000001 00000080 00000002 0001 0000 00000000;"
+        "I 00000001 02000000000180 02000000000284",
+        "dlpi replay\n"
+        "1 ok\n"
+        "2 open 0\n"
+        "3 C 0 000000060000000b\n"
+        "4 C 0 00000004000000800000000700000018000000020000000002000000000180\n"
+        "5 P 0 0000000e000000010000000700000024000000070000002b"
+        "0000000000000000000000000200000000018002000000000284\n"
+        "5 records, 0 refused\n");
+    replays_text(b, "", "dlpi replay\n0 records, 0 refused\n");
+    replays_text(b, "X 0; O; X 0",
+        "dlpi replay\n1 refused 2\n2 open 0\n3 ok\n3 records, 1 refused\n");
+}
+
+/* One line of each kind out. */
+static void test_replay_kinds(struct bench *b)
+{
+    b->topic = "replay of each kind";
+    replays_text(b,
+        "G 00000001 020000000001; O; O; P 1 0000000b 00000001;"
+        "P 1 00000001 00000080 00000001 0001 0000 00000000;"
+        "P 1 0000000d " CONNECT_FIELDS " 02000000000984;"
+        "A 1 02000000000984; P 1 00000017; S 1; R 1 00000007; P 1 00000019;"
+        "P 1 00000013 000000ab 00000000;"
+        "I 00000001 02000000000180 02000000000284;"
+        "P 1 0000000f 00000001 00000000 00000000 00000000 00000000; X 1",
+        "dlpi replay\n"
+        "1 ok\n"
+        "2 open 0\n"
+        "3 open 1\n"
+        "4 C 1 000000060000000b\n"
+        "5 C 1 00000004000000800000000700000018000000010000000002000000000180\n"
+        "6 c 1 02000000000984\n"
+        "7 P 1 000000100000000700000018000000000000000000000000"
+        "02000000000984\n"
+        "8 r 1\n"
+        "9 F 1\n"
+        "9 P 1 0000001a\n"
+        "10 F 1\n"
+        "10 P 1 000000180000070100000007\n"
+        "11 s 1\n"
+        "11 C 1 0000000600000019\n"
+        "12 d 1 00000000000000ab\n"
+        "12 F 1\n"
+        "12 C 1 0000000600000013\n"
+        "13 P 1 0000000e000000010000000700000024000000070000002b"
+        "0000000000000000000000000200000000018002000000000284\n"
+        "14 a 1 00000001\n"
+        "14 C 1 000000060000000f\n"
+        "15 d 1 0000000000000000\n"
+        "15 records, 0 refused\n");
+}
+
+/* Unknown kinds and cut records end the reading, padding doesn't. */
+static void test_replay_ends(struct bench *b)
+{
+    uint8_t bytes[2 * 99 + 3];
+
+    b->topic = "replay where reading ends";
+    replays(b, (const uint8_t *)"OZO", 3,
+            "dlpi replay\n1 open 0\n2 refused 10\n2 records, 1 refused\n",
+            "unknown kind");
+    replays(b, (const uint8_t *)"OG\0\0\0\1\2\0\0\0\0", 11,
+            "dlpi replay\n1 open 0\n2 refused 10\n2 records, 1 refused\n",
+            "cut record");
+    bytes[0] = 'O';
+    message(bytes + 1, 0, 4, "00000011 01");
+    message(bytes + 100, 0, 97, "00000011 01");
+    bytes[199] = 'O';
+    bytes[200] = 'X';
+    replays(b, bytes, sizeof bytes,
+            "dlpi replay\n1 open 0\n2 refused 10\n3 refused 5\n4 open 1\n"
+            "5 refused 10\n5 records, 3 refused\n",
+            "nonzero padding, L 97, a cut X");
+}
+
+/* Longer than any buffer for reading is likely to be. */
+static void test_replay_long(struct bench *b)
+{
+    enum { PAIRS = 100001 };
+    uint8_t *input = malloc(3 * PAIRS);
+    char *wanted = malloc(64 + 32 * PAIRS);
+    char *end = wanted;
+
+    if (input == NULL || wanted == NULL) {
+        perror("selftest");
+        exit(1);
+    }
+    b->topic = "replay of a long input";
+    end += sprintf(end, "dlpi replay\n");
+    for (unsigned i = 0; i < PAIRS; i++) {
+        memcpy(input + 3 * i, "OX\0", 3);
+        end += sprintf(end, "%u open 0\n%u ok\n", 2 * i + 1, 2 * i + 2);
+    }
+    sprintf(end, "%u records, 0 refused\n", 2 * PAIRS);
+    replays(b, input, 3 * PAIRS, wanted, "O and X over and over");
+    free(input);
+    free(wanted);
+}
+
+/* ---- refusals ---- */
+
+static void test_refusal_1(struct bench *b)
+{
+    static const char *const records[] = {
+        "G 00000003 020000000003", "O", "X 0", "P 0 00000000", "C 0 00000000",
+        "I 00000001 02000000000180 02000000000284", "A 1 02000000000984",
+        "D 1 00000000", "W 2 00000005 00000000", "R 3 00000000", "S 4",
+    };
+
+    b->topic = "refusal 1";
+    start(b);
+    table_of(b)[OPENED] = 1;
+    stand(b, 0, IDLE_SLOT);
+    stand(b, 1, "08 01 0082 00000001");
+    stand(b, 2, "09 01 0084 00000001 01 01 00000005");
+    stand(b, 3, "0b 01 0082 00000001");
+    stand(b, 4, "0c 01 0082 00000001");
+    for (size_t i = 0; i < sizeof records / sizeof records[0]; i++) {
+        uint8_t record[LONGEST_TEXT];
+        size_t size = parse_records(records[i], record);
+
+        for (size_t room_len = 0; room_len < 128; room_len++)
+            refuse_bytes(b, record, size, room_len, 1, records[i]);
+        check(b,
+              second_call(table_of(b), SECOND_TABLE_SIZE, record, size, NULL,
+                          0) == 1u << 16,
+              "no room");
+    }
+}
+
+static void test_refusal_2(struct bench *b)
+{
+    static const struct {
+        char kind;
+        size_t size;
+    } kinds[] = {
+        { 'X', 2 }, { 'P', 99 }, { 'C', 99 }, { 'A', 9 }, { 'D', 6 },
+        { 'W', 10 }, { 'R', 6 }, { 'S', 2 },
+    };
+    static const uint8_t streams[] = { 1, 15, 16, 17, 128, 255 };
+
+    b->topic = "refusal 2";
+    start(b);
+    stand(b, 0, "00");
+    for (size_t i = 0; i < sizeof kinds / sizeof kinds[0]; i++)
+        for (size_t j = 0; j < sizeof streams; j++) {
+            uint8_t record[99] = { 0 };
+
+            record[0] = (uint8_t)kinds[i].kind;
+            record[1] = streams[j];
+            refuse_bytes(b, record, kinds[i].size, NEEDED_ROOM, 2,
+                         "stream over 15, or not open");
+        }
+}
+
+static void test_refusal_3(struct bench *b)
+{
+    b->topic = "refusal 3";
+    start_fresh(b);
+    for (unsigned s = 0; s < 16; s++)
+        serve_open(b, s);
+    refuse(b, "O", 3);
+    serve(b, "X 11", "");
+    put_closed(b->want, 11);
+    same_table(b, "X 11");
+    serve(b, "X 5", "");
+    put_closed(b->want, 5);
+    same_table(b, "X 5");
+    serve_open(b, 5);
+    serve_open(b, 11);
+    refuse(b, "O", 3);
+}
+
+static void test_refusals_4_and_5(struct bench *b)
+{
+    uint8_t record[99];
+
+    b->topic = "refusals 4 and 5";
+    start(b);
+    stand(b, 0, "00");
+    for (unsigned length = 0; length < 4; length++) {
+        message(record, 0, (uint8_t)length, "");
+        refuse_bytes(b, record, 99, NEEDED_ROOM, 4, "L under 4");
+    }
+    for (unsigned length = 97; length < 256; length++) {
+        message(record, 0, (uint8_t)length, "00000011");
+        refuse_bytes(b, record, 99, NEEDED_ROOM, 5, "L over 96");
+    }
+    memset(record + 3, 0xff, 96);
+    refuse_bytes(b, record, 99, NEEDED_ROOM, 5, "L over 96 has no padding");
+    message(record, 0, 96, "00000011");
+    record[98] = 1;
+    serve_bytes(b, record, 99, 0, "C 0 00000012 00000001", "L 96");
+}
+
+static void test_refusal_6(struct bench *b)
+{
+    b->topic = "refusal 6";
+    start(b);
+    stand(b, 0, CALLED_SLOT);
+    stand(b, 1, "09 01 0082 00000001 02 01 00000006");
+    refuse(b, "W 0 00000006 00000000", 6);
+    refuse(b, "W 0 00000000 00000000", 6);
+    refuse(b, "W 1 00000005 00000000", 6);
+    refuse(b, "D 0 00000000", 6);
+}
+
+static void test_refusal_7(struct bench *b)
+{
+    b->topic = "refusal 7";
+    start(b);
+    stand(b, 0, IDLE_SLOT);
+    stand(b, 1, "06 01 0082 00000002 01");
+    stand(b, 2, "06 01 0084 00000001 00");
+    stand(b, 3, "06 02 0086 00000001 00");
+    refuse(b, "I 00000003 02000000000180 02000000000284", 7);
+    refuse(b, "I 00000000 02000000000180 02000000000284", 7);
+    refuse(b, "I 00000001 02000000000280 02000000000284", 7);
+    refuse(b, "I 00000001 03000000000180 02000000000284", 7);
+    refuse(b, "I 00000001 02000000000182 02000000000284", 7);
+    refuse(b, "I 00000001 02000000000184 02000000000284", 7);
+    refuse(b, "I 00000001 02000000000186 02000000000284", 7);
+    refuse(b, "I 00000002 02000000000280 02000000000284", 7);
+}
+
+static void test_refusal_8(struct bench *b)
+{
+    static const char *const busy[] = {
+        CALLING_SLOT, CONNECTED_SLOT, USER_RESET_SLOT, PEER_RESET_SLOT,
+        "09 01 0080 00000001 01 01 00000005",
+        "09 01 0080 00000001 03 03 00000005 00000006 00000007",
+    };
+
+    b->topic = "refusal 8";
+    for (size_t i = 0; i < sizeof busy / sizeof busy[0]; i++) {
+        start(b);
+        stand(b, 0, busy[i]);
+        refuse(b, "I 00000001 02000000000180 02000000000284", 8);
+        refuse(b, "I 00000001 02000000000280 02000000000284", 7);
+        refuse(b, "I 00000002 02000000000180 02000000000284", 7);
+    }
+}
+
+static void test_refusal_9(struct bench *b)
+{
+    char in[LONGEST_TEXT];
+
+    b->topic = "refusal 9";
+    start_fresh(b);
+    for (unsigned i = 0; i < 8; i++) {
+        char ppa[LONGEST_TEXT];
+
+        snprintf(ppa, sizeof ppa, "%08x 0200000000%02x", i * 7, i);
+        snprintf(in, sizeof in, "G %s", ppa);
+        serve(b, in, "");
+        put_ppa(b->want, i, ppa);
+        same_table(b, in);
+        refuse(b, in, 9);
+    }
+    refuse(b, "G 00000099 020000000099", 9);
+
+    start_fresh(b);
+    serve(b, "G 00000001 020000000001", "");
+    put_ppa(b->want, 0, "00000001 020000000001");
+    same_table(b, "G");
+    refuse(b, "G 00000001 020000000002", 9);
+    serve(b, "G 00000002 020000000001", "");
+    put_ppa(b->want, 1, "00000002 020000000001");
+    same_table(b, "equal MACs");
+    serve_open(b, 0);
+    refuse(b, "G 00000003 020000000003", 9);
+    serve(b, "X 0", "");
+    put_closed(b->want, 0);
+    same_table(b, "X");
+    refuse(b, "G 00000003 020000000003", 9);
+}
+
+static void test_refusal_10(struct bench *b)
+{
+    uint8_t record[100] = { 0 };
+
+    b->topic = "refusal 10";
+    start(b);
+    stand(b, 0, "00");
+    refuse_bytes(b, NULL, 0, NEEDED_ROOM, 10, "no bytes");
+    for (unsigned kind = 0; kind < 256; kind++)
+        if (kind == 0 || strchr("GOXPCIADWRS", (int)kind) == NULL) {
+            record[0] = (uint8_t)kind;
+            refuse_bytes(b, record, 100, NEEDED_ROOM, 10, "unknown kind");
+        }
+    refuse_bytes(b, (const uint8_t *)"X", 1, NEEDED_ROOM, 10, "cut X");
+    refuse_bytes(b, (const uint8_t *)"G\0\0\0\7\2\0\0\0\0", 10, NEEDED_ROOM, 10,
+                 "cut G");
+    for (uint8_t length = 0; length < 96; length++) {
+        message(record, 0, length, "");
+        record[3 + length] = 1;
+        refuse_bytes(b, record, 99, NEEDED_ROOM, 10, "padding, first byte");
+        message(record, 0, length, "");
+        record[98] = 0x80;
+        refuse_bytes(b, record, 99, NEEDED_ROOM, 10, "padding, last byte");
+        refuse_bytes(b, record, 98, NEEDED_ROOM, 10, "cut P");
+    }
+    message(record, 0, 4, "00000011");
+    record[99] = 0xff;
+    serve_bytes(b, record, 100, 0, "C 0 00000012 00000001",
+                "bytes behind the record stay unread");
+}
+
+/* Order of tests: 16, 10, 1, 2, 5, 4, then the rest. */
+static void test_order_of_refusals(struct bench *b)
+{
+    uint8_t record[LONGEST_TEXT];
+
+    b->topic = "order of refusals";
+    start(b);
+    refuse_bytes(b, NULL, 0, 0, 10, "10 before 1: no bytes");
+    message(record, 3, 4, "00000000 01");
+    refuse_bytes(b, record, 99, 0, 10, "10 before 1: padding");
+    refuse_bytes(b, record, 99, 128, 10, "10 before 2: padding");
+    message(record, 200, 3, "00000001");
+    refuse_bytes(b, record, 99, 128, 10, "10 before 2 and 4: padding");
+    message(record, 200, 3, "");
+    refuse_bytes(b, record, 99, 127, 1, "1 before 2 and 4");
+    refuse_bytes(b, record, 99, 128, 2, "2 before 4");
+    message(record, 200, 97, "ffffffff");
+    refuse_bytes(b, record, 99, 127, 1, "1 before 2 and 5");
+    refuse_bytes(b, record, 99, 128, 2, "2 before 5");
+    refuse(b, "A 0 02000000000984", 2);
+    refuse(b, "W 0 00000005 00000000", 2);
+
+    stand(b, 0, "00");
+    message(record, 0, 97, "ffffffff");
+    refuse_bytes(b, record, 99, 127, 1, "1 before 5");
+    message(record, 0, 0, "");
+    refuse_bytes(b, record, 99, 127, 1, "1 before 4");
+    refuse_bytes(b, record, parse_records("A 0 02000000000984", record), 127, 1,
+                 "1 before 6");
+    refuse_bytes(b, record,
+                 parse_records("I 00000009 00000000000000 00000000000000",
+                               record),
+                 127, 1, "1 before 7");
+    refuse_bytes(b, record, parse_records("G 00000001 020000000001", record),
+                 127, 1, "1 before 9");
+}
+
+/* ---- refusal 16 ---- */
+
+/* Whatever the record and the room: 16 is tested first. */
+static void not_lent_soundly(struct bench *b, const char *what)
+{
+    refuse_bytes(b, (const uint8_t *)"O", 1, NEEDED_ROOM, 16, what);
+    refuse_bytes(b, NULL, 0, NEEDED_ROOM, 16, what);
+    refuse_bytes(b, (const uint8_t *)"O", 1, 0, 16, what);
+}
+
+static void lent_soundly(struct bench *b, const char *what)
+{
+    refuse_bytes(b, NULL, 0, NEEDED_ROOM, 10, what);
+}
+
+static void test_length_of_image(struct bench *b)
+{
+    uint8_t image[SECOND_TABLE_SIZE + 1] = { 0xff, 0xff };
+    uint8_t before[sizeof image];
+    uint8_t room[NEEDED_ROOM];
+    const uint8_t *record = (const uint8_t *)"O";
+
+    b->topic = "refusal 16, length";
+    memcpy(before, image, sizeof image);
+    check(b, second_call(image, 759, record, 1, room, 128) == 16u << 16, "759");
+    check(b, second_call(image, 761, record, 1, room, 128) == 16u << 16, "761");
+    check(b, second_call(image, 0, record, 1, room, 128) == 16u << 16, "0");
+    check(b, second_call(NULL, 0, record, 1, room, 128) == 16u << 16, "none");
+    check(b, second_call(NULL, 0, NULL, 0, NULL, 0) == 16u << 16, "nothing");
+    check(b, memcmp(image, before, sizeof image) == 0, "image as it was");
+}
+
+/* A sound table with much in it, for damages. */
+static void start_full(struct bench *b)
+{
+    start(b);
+    stand(b, 0, "09 01 0080 00000001 03 02 00000007 00000008");
+    stand(b, 1, UNBOUND_SLOT);
+    stand(b, 2, "00");
+    stand(b, 3, TYPE_SLOT);
+    stand(b, 4, "0b 01 0082 00000002 00");
+    stand(b, 5, "09 01 0080 00000002 01 01 00000009");
+    stand(b, 6, "06 01 0080 00000001 00");
+}
+
+#define IN_SLOT(s, offset) (SLOTS + SLOT * (s) + (offset))
+
+static void test_damaged_bytes(struct bench *b)
+{
+    static const struct {
+        const char *what;
+        size_t offset;
+        const char *bytes;
+    } damages[] = {
+        { "opening byte 2", OPENED, "02" },
+        { "opening byte 255", OPENED, "ff" },
+        { "opening not remembered", OPENED, "00" },
+        { "9 PPAs", PPA_COUNT, "09" },
+        { "255 PPAs", PPA_COUNT, "ff" },
+        { "PPA place behind the count", PPA_COUNT, "01" },
+        { "unused place for a PPA, number", PPA_PLACES + 20, "01" },
+        { "unused place for a PPA, MAC", PPA_PLACES + 79, "01" },
+        { "PPA numbers equal", PPA_PLACES + 10, "00000001" },
+        { "attached PPA missing", PPA_PLACES, "00000003" },
+        { "mask closes a stream that holds calls", MASK, "ffc1" },
+        { "mask closes a stream that is attached", MASK, "ff82" },
+        { "state 0 with a PPA of the table", IN_SLOT(2, 4), "00000001" },
+        { "state 0 with another PPA", IN_SLOT(2, 4), "00000003" },
+        { "state 0 with a mode", IN_SLOT(2, 1), "01" },
+        { "state 0 with a SAP", IN_SLOT(2, 2), "0080" },
+        { "state 0 with a count granted", IN_SLOT(2, 8), "01" },
+        { "state 0 with an indication", IN_SLOT(2, 9), "0100000063" },
+        { "state 3 with PPA 0", IN_SLOT(1, 4), "00000000" },
+        { "state 3 with an unknown PPA", IN_SLOT(1, 4), "00000003" },
+        { "state 3 with a mode", IN_SLOT(1, 1), "01" },
+        { "state 3 with a SAP", IN_SLOT(1, 2), "0080" },
+        { "state 3 with a count granted", IN_SLOT(1, 8), "01" },
+        { "state 3 with an indication", IN_SLOT(1, 9), "0100000063" },
+        { "state 6 with an unknown PPA", IN_SLOT(6, 4), "00000003" },
+        { "state 6 with PPA 0", IN_SLOT(6, 4), "00000000" },
+        { "state 6 in mode 0", IN_SLOT(6, 1), "00" },
+        { "state 6 in mode 3", IN_SLOT(6, 1), "03" },
+        { "state 6 with an odd SAP", IN_SLOT(6, 2), "0081" },
+        { "state 6 with the reserved SAP", IN_SLOT(6, 2), "0006" },
+        { "state 6 with SAP 0x100", IN_SLOT(6, 2), "0100" },
+        { "mode 1 with a type", IN_SLOT(6, 2), "0800" },
+        { "mode 2 with 0x5ff", IN_SLOT(3, 2), "05ff" },
+        { "mode 2 with an odd SAP", IN_SLOT(3, 2), "0081" },
+        { "mode 2 with the reserved SAP", IN_SLOT(3, 2), "0006" },
+        { "mode 2 with a count granted", IN_SLOT(3, 8), "01" },
+        { "state 6 with an indication", IN_SLOT(6, 8), "020100000063" },
+        { "state 11 with an indication", IN_SLOT(4, 8), "020100000063" },
+        { "state 11 in mode 2", IN_SLOT(4, 1), "02" },
+        { "state 11 with an unknown PPA", IN_SLOT(4, 4), "00000003" },
+        { "state 9 without an indication", IN_SLOT(5, 9), "0000000000" },
+        { "state 9 with more than granted", IN_SLOT(0, 8), "01" },
+        { "state 9 with none granted", IN_SLOT(5, 8), "00" },
+        { "9 granted in state 9", IN_SLOT(0, 8), "09" },
+        { "9 granted in state 11", IN_SLOT(4, 8), "09" },
+        { "255 granted in state 6", IN_SLOT(6, 8), "ff" },
+        { "9 indications", IN_SLOT(0, 9), "09" },
+        { "number behind the count", IN_SLOT(0, 9), "01" },
+        { "unused place for a number", IN_SLOT(0, 18), "00000001" },
+        { "last unused place for a number", IN_SLOT(0, 41), "01" },
+        { "unused place of a closed stream", IN_SLOT(15, 41), "01" },
+        { "open number 0", IN_SLOT(0, 10), "00000000" },
+        { "last open number 0", IN_SLOT(0, 14), "00000000" },
+        { "number twice on a stream", IN_SLOT(0, 14), "00000007" },
+        { "number twice on two streams", IN_SLOT(5, 10), "00000008" },
+        { "two listen for one PPA and SAP", IN_SLOT(6, 8), "01" },
+        { "closed stream with a state", IN_SLOT(15, 0), "03" },
+        { "closed stream with a mode", IN_SLOT(15, 1), "01" },
+        { "closed stream with a SAP", IN_SLOT(15, 2), "0080" },
+        { "closed stream with a PPA", IN_SLOT(15, 4), "00000001" },
+        { "closed stream with a count granted", IN_SLOT(15, 8), "01" },
+        { "closed stream with an indication", IN_SLOT(15, 9), "0100000063" },
+    };
+
+    b->topic = "refusal 16, damaged bytes";
+    start_full(b);
+    lent_soundly(b, "the table before the damage");
+    for (size_t i = 0; i < sizeof damages / sizeof damages[0]; i++) {
+        start_full(b);
+        hex(damages[i].bytes, table_of(b) + damages[i].offset);
+        not_lent_soundly(b, damages[i].what);
+    }
+}
+
+static void test_states_of_slots(struct bench *b)
+{
+    static const uint8_t states_bound_in_mode_1[] = { 6, 8, 11, 12, 13 };
+
+    b->topic = "refusal 16, states";
+    for (unsigned state = 0; state < 256; state++) {
+        start(b);
+        stand(b, 7, "00 01 0082 00000001 02");
+        table_of(b)[IN_SLOT(7, 0)] = (uint8_t)state;
+        if (memchr(states_bound_in_mode_1, (int)state, 5) != NULL)
+            lent_soundly(b, "a state with a row");
+        else
+            not_lent_soundly(b, "a state without a row, or not of this slot");
+    }
+}
+
+/* Above 6 only mode 1, and open indications only in 9. */
+static void test_slots_above_6(struct bench *b)
+{
+    static const char *const states[] = { "08", "0b", "0c", "0d" };
+    char slot[LONGEST_TEXT];
+
+    b->topic = "refusal 16, slots above 6";
+    for (size_t i = 0; i < 4; i++) {
+        start(b);
+        snprintf(slot, sizeof slot, "%s 02 0082 00000001", states[i]);
+        stand(b, 7, slot);
+        not_lent_soundly(b, slot);
+        snprintf(slot, sizeof slot, "%s 01 0082 00000001 01 01 00000003",
+                 states[i]);
+        stand(b, 7, slot);
+        not_lent_soundly(b, slot);
+        snprintf(slot, sizeof slot, "%s 01 0082 00000003 01", states[i]);
+        stand(b, 7, slot);
+        not_lent_soundly(b, slot);
+        snprintf(slot, sizeof slot, "%s 00 0000 00000001", states[i]);
+        stand(b, 7, slot);
+        not_lent_soundly(b, slot);
+        snprintf(slot, sizeof slot, "%s 01 0082 00000001 08", states[i]);
+        stand(b, 7, slot);
+        lent_soundly(b, slot);
+    }
+}
+
+static void test_sound_tables(struct bench *b)
+{
+    static const char *const sound_slots[] = {
+        "06 01 0000 00000001", "06 01 00fe 00000001 08", "06 02 00aa 00000001",
+        "06 02 0600 00000001", "06 02 ffff 00000001", "06 02 0000 00000002",
+        "09 01 00aa 00000001 08 08 00000001 00000002 00000003 00000004"
+        " 00000005 00000006 00000064 ffffffff",
+    };
+
+    b->topic = "sound tables";
+    for (size_t i = 0; i < sizeof sound_slots / sizeof sound_slots[0]; i++) {
+        start_full(b);
+        stand(b, 15, sound_slots[i]);
+        lent_soundly(b, sound_slots[i]);
+    }
+    start_full(b);
+    put_number(table_of(b) + COUNTER, 0);
+    lent_soundly(b, "counter 0");
+    put_number(table_of(b) + COUNTER, 7);
+    lent_soundly(b, "counter at an open number");
+    hex("020000000001", table_of(b) + PPA_PLACES + 14);
+    lent_soundly(b, "equal MACs");
+    start(b);
+    lent_soundly(b, "an opening remembered and all closed");
+    put_ppa(table_of(b), 2, "00000000 000000000000");
+    stand(b, 9, "03 00 0000 00000000");
+    lent_soundly(b, "attached to a PPA of number 0");
+    start(b);
+    table_of(b)[OPENED] = 0;
+    lent_soundly(b, "PPAs and no opening");
+}
