@@ -75,29 +75,9 @@ static fault_set fault_if(bool applies, enum fault fault)
 
 /* --- Requests, steps 1 to 7 */
 
-static uint32_t field(const struct call *call, unsigned offset)
-{
-    return get32(call->bytes + AT_BLOCK + offset);
-}
-
-static uint16_t half_field(const struct call *call, unsigned offset)
-{
-    return get16(call->bytes + AT_BLOCK + offset);
-}
-
-static unsigned stream_of(const struct call *call)
-{
-    return call->bytes[AT_STREAM];
-}
-
-static unsigned state_of(const struct call *call)
-{
-    return image_state(call->image, stream_of(call));
-}
-
 static fault_set faults_of_attach(const struct call *call)
 {
-    return fault_if(image_find_ppa(call->image, field(call, AT_ATTACH_PPA)) < 0, ATTACH_PPA);
+    return fault_if(image_find_ppa(call->image, call_field(call, AT_ATTACH_PPA)) < 0, ATTACH_PPA);
 }
 
 static fault_set faults_of_bound_sap(uint32_t sap)
@@ -110,20 +90,20 @@ static fault_set faults_of_bound_sap(uint32_t sap)
 /* Another stream listens for the PPA of this one, if it has one, and the SAP. */
 static bool is_taken(const struct call *call, uint32_t sap)
 {
-    int listener = image_find_listener(call->image, image_ppa(call->image, stream_of(call)), sap);
-    return state_of(call) != UNATTACHED && listener >= 0 && (unsigned)listener != stream_of(call);
+    int listener = image_find_listener(call->image, image_ppa(call->image, call_stream(call)), sap);
+    return call_state(call) != UNATTACHED && listener >= 0 && (unsigned)listener != call_stream(call);
 }
 
 static fault_set faults_of_bind(const struct call *call)
 {
-    uint32_t sap = field(call, AT_BIND_SAP);
-    unsigned mode = half_field(call, AT_BIND_MODE);
+    uint32_t sap = call_field(call, AT_BIND_SAP);
+    unsigned mode = call_half_field(call, AT_BIND_MODE);
     bool connection = mode == MODE_CONNECTION;
     bool with_type = sap >= TYPE_FIRST && sap <= TYPE_LAST;
-    bool listens = connection && field(call, AT_BIND_MAX_CONIND) > 0;
+    bool listens = connection && call_field(call, AT_BIND_MAX_CONIND) > 0;
     return fault_if(!connection && mode != MODE_CONNECTIONLESS, BIND_MODE) |
-           fault_if(half_field(call, AT_BIND_CONN_MGMT) != 0, BIND_CONN_MGMT) |
-           fault_if(field(call, AT_BIND_XIDTEST) != 0, BIND_XIDTEST) |
+           fault_if(call_half_field(call, AT_BIND_CONN_MGMT) != 0, BIND_CONN_MGMT) |
+           fault_if(call_field(call, AT_BIND_XIDTEST) != 0, BIND_XIDTEST) |
            faults_of_bound_sap(sap) |
            fault_if(connection && with_type, BIND_TYPE) |
            fault_if(listens && is_taken(call, sap), BIND_BOUND);
@@ -132,8 +112,8 @@ static fault_set faults_of_bind(const struct call *call)
 /* The sum of offset and length is taken in 64 bits. */
 static fault_set faults_of_destination(const struct call *call)
 {
-    uint32_t length = field(call, AT_CONNECT_LENGTH);
-    uint32_t offset = field(call, AT_CONNECT_OFFSET);
+    uint32_t length = call_field(call, AT_CONNECT_LENGTH);
+    uint32_t offset = call_field(call, AT_CONNECT_OFFSET);
     uint64_t end = (uint64_t)offset + length;
     fault_set faults = fault_if(length != ADDRESS_SIZE, CONNECT_LENGTH) |
                        fault_if(offset < CONNECT_SIZE, CONNECT_OFFSET) |
@@ -146,13 +126,13 @@ static fault_set faults_of_destination(const struct call *call)
 
 static fault_set faults_of_connect(const struct call *call)
 {
-    return fault_if(field(call, AT_CONNECT_QOS_LENGTH) != 0, CONNECT_QOS) | faults_of_destination(call);
+    return fault_if(call_field(call, AT_CONNECT_QOS_LENGTH) != 0, CONNECT_QOS) | faults_of_destination(call);
 }
 
 /* The number is not open on the stream; it may be on another. */
 static fault_set faults_of_number(const struct call *call, uint32_t number, enum fault elsewhere, enum fault nowhere)
 {
-    if (image_find_number(call->image, stream_of(call), number) >= 0)
+    if (image_find_number(call->image, call_stream(call), number) >= 0)
         return 0;
     return FAULT(image_find_holder(call->image, number) >= 0 ? elsewhere : nowhere);
 }
@@ -160,8 +140,8 @@ static fault_set faults_of_number(const struct call *call, uint32_t number, enum
 /* The stream offered is another than the one that asks. */
 static fault_set faults_of_carrier(const struct call *call, unsigned carrier)
 {
-    unsigned asker = stream_of(call);
-    bool both_attached = state_of(call) != UNATTACHED && image_state(call->image, carrier) != UNATTACHED;
+    unsigned asker = call_stream(call);
+    bool both_attached = call_state(call) != UNATTACHED && image_state(call->image, carrier) != UNATTACHED;
     bool same_ppa = image_ppa(call->image, carrier) == image_ppa(call->image, asker);
     return fault_if(image_state(call->image, carrier) != IDLE, ACCEPT_CARRIER_STATE) |
            fault_if(both_attached && !same_ppa, ACCEPT_CARRIER_PPA) |
@@ -170,10 +150,10 @@ static fault_set faults_of_carrier(const struct call *call, unsigned carrier)
 
 static fault_set faults_of_token(const struct call *call, uint32_t token)
 {
-    bool several = image_indications(call->image, stream_of(call)) > 1;
+    bool several = image_indications(call->image, call_stream(call)) > 1;
     if (token == 0)
         return fault_if(several, ACCEPT_PENDING_ZERO);
-    if (token == stream_of(call) + 1)
+    if (token == call_stream(call) + 1)
         return fault_if(several, ACCEPT_PENDING_OWN);
     if (token > STREAMS)
         return FAULT(ACCEPT_TOKEN_OVER);
@@ -184,16 +164,16 @@ static fault_set faults_of_token(const struct call *call, uint32_t token)
 
 static fault_set faults_of_accept(const struct call *call)
 {
-    uint32_t number = field(call, AT_ACCEPT_NUMBER);
+    uint32_t number = call_field(call, AT_ACCEPT_NUMBER);
     return faults_of_number(call, number, ACCEPT_NUMBER_ELSEWHERE, ACCEPT_NUMBER_NOWHERE) |
-           fault_if(field(call, AT_ACCEPT_QOS_LENGTH) != 0, ACCEPT_QOS) |
-           faults_of_token(call, field(call, AT_ACCEPT_TOKEN));
+           fault_if(call_field(call, AT_ACCEPT_QOS_LENGTH) != 0, ACCEPT_QOS) |
+           faults_of_token(call, call_field(call, AT_ACCEPT_TOKEN));
 }
 
 static fault_set faults_of_disconnect(const struct call *call)
 {
-    uint32_t number = field(call, AT_DISCONNECT_NUMBER);
-    if (state_of(call) == RINGING)
+    uint32_t number = call_field(call, AT_DISCONNECT_NUMBER);
+    if (call_state(call) == RINGING)
         return faults_of_number(call, number, DISCONNECT_NUMBER_ELSEWHERE, DISCONNECT_NUMBER_NOWHERE);
     return fault_if(number != 0, DISCONNECT_NUMBER_NOT_0);
 }
@@ -247,18 +227,18 @@ static fault_set faults_of_code(uint32_t code)
 /* Of the rows that need mode 1, CONNECT_REQ's alone is in a state that mode 2 has as well. */
 static fault_set faults_of_row(const struct call *call, const struct request_rule *rule)
 {
-    if ((rule->states & STATE(state_of(call))) == 0)
+    if ((rule->states & STATE(call_state(call))) == 0)
         return FAULT(STATE_WITHOUT_ROW);
-    bool connectionless = image_mode(call->image, stream_of(call)) == MODE_CONNECTIONLESS;
+    bool connectionless = image_mode(call->image, call_stream(call)) == MODE_CONNECTIONLESS;
     return fault_if(rule->code == CONNECT_REQ && connectionless, MODE_WITHOUT_ROW);
 }
 
 /* The stream is open and L from 4 to 96. */
 static fault_set faults_of_request(const struct call *call)
 {
-    const struct request_rule *rule = find_request_rule(field(call, AT_CODE));
+    const struct request_rule *rule = find_request_rule(call_field(call, AT_CODE));
     if (rule == NULL)
-        return faults_of_code(field(call, AT_CODE));
+        return faults_of_code(call_field(call, AT_CODE));
     if (call->bytes[AT_LENGTH] < rule->size)
         return FAULT(MESSAGE_CUT) | faults_of_row(call, rule);
     return faults_of_row(call, rule) | rule->faults(call);
@@ -296,7 +276,7 @@ static fault_set faults_of_incoming_call(const struct call *call)
 
 static fault_set faults_of_event(const struct call *call, unsigned states)
 {
-    return fault_if((states & STATE(state_of(call))) == 0, EVENT_WITHOUT_ROW);
+    return fault_if((states & STATE(call_state(call))) == 0, EVENT_WITHOUT_ROW);
 }
 
 static bool has_nonzero_padding(const struct call *call)
@@ -316,9 +296,9 @@ static fault_set faults_of_form(const struct call *call)
 
 static fault_set faults_of_stream(const struct call *call)
 {
-    if (stream_of(call) >= STREAMS)
+    if (call_stream(call) >= STREAMS)
         return FAULT(STREAM_OVER);
-    return fault_if(!image_is_open(call->image, stream_of(call)), STREAM_CLOSED);
+    return fault_if(!image_is_open(call->image, call_stream(call)), STREAM_CLOSED);
 }
 
 static fault_set faults_of_message(const struct call *call)

@@ -2,15 +2,9 @@
 #ifndef GENERATE_FAULT_H
 #define GENERATE_FAULT_H
 
-#include <stddef.h>
 #include <stdint.h>
 
-/* A call: the lent bytes, which begin with a record, and the image before the call, which is sound. */
-struct call {
-    const uint8_t *bytes;
-    size_t size;
-    const uint8_t *image;
-};
+#include "call.h"
 
 /* The tests in the paper's order; tests that give one number beside one another in the order of their naming.
  * Room and table are always as they must be, so the tests for 1 and 16 have no place here. */

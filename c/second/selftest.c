@@ -38,6 +38,8 @@ enum {
     SLOT = 42
 };
 
+#define COUNT(array) (sizeof (array) / sizeof (array)[0])
+
 struct bench {
     unsigned passed;
     unsigned failed;
@@ -310,15 +312,14 @@ static void error(struct bench *b, const char *in, unsigned code)
 }
 
 /* A message whose L is not that of its text. */
-static size_t message(uint8_t *record, uint8_t s, uint8_t length,
-                      const char *block)
+static void message(uint8_t *record, uint8_t s, uint8_t length,
+                    const char *block)
 {
     memset(record, 0, 99);
     record[0] = 'P';
     record[1] = s;
     record[2] = length;
     hex(block, record + 3);
-    return 99;
 }
 
 /* ---- slots and messages that occur often ---- */
@@ -406,7 +407,7 @@ static void test_record_sizes(struct bench *b)
 
     b->topic = "record sizes";
     memset(record, 0xff, sizeof record);
-    for (size_t i = 0; i < sizeof kinds / sizeof kinds[0]; i++) {
+    for (size_t i = 0; i < COUNT(kinds); i++) {
         uint32_t size = kinds[i].size;
 
         record[0] = (uint8_t)kinds[i].kind;
@@ -691,13 +692,12 @@ static void test_refusal_1(struct bench *b)
 
     b->topic = "refusal 1";
     start(b);
-    table_of(b)[OPENED] = 1;
     stand(b, 0, IDLE_SLOT);
     stand(b, 1, "08 01 0082 00000001");
     stand(b, 2, "09 01 0084 00000001 01 01 00000005");
     stand(b, 3, "0b 01 0082 00000001");
     stand(b, 4, "0c 01 0082 00000001");
-    for (size_t i = 0; i < sizeof records / sizeof records[0]; i++) {
+    for (size_t i = 0; i < COUNT(records); i++) {
         uint8_t record[LONGEST_TEXT];
         size_t size = parse_records(records[i], record);
 
@@ -724,7 +724,7 @@ static void test_refusal_2(struct bench *b)
     b->topic = "refusal 2";
     start(b);
     stand(b, 0, "00");
-    for (size_t i = 0; i < sizeof kinds / sizeof kinds[0]; i++)
+    for (size_t i = 0; i < COUNT(kinds); i++)
         for (size_t j = 0; j < sizeof streams; j++) {
             uint8_t record[99] = { 0 };
 
@@ -814,7 +814,7 @@ static void test_refusal_8(struct bench *b)
     };
 
     b->topic = "refusal 8";
-    for (size_t i = 0; i < sizeof busy / sizeof busy[0]; i++) {
+    for (size_t i = 0; i < COUNT(busy); i++) {
         start(b);
         stand(b, 0, busy[i]);
         refuse(b, "I 00000001 02000000000180 02000000000284", 8);
@@ -830,12 +830,9 @@ static void test_refusal_9(struct bench *b)
     b->topic = "refusal 9";
     start_fresh(b);
     for (unsigned i = 0; i < 8; i++) {
-        char ppa[LONGEST_TEXT];
-
-        snprintf(ppa, sizeof ppa, "%08x 0200000000%02x", i * 7, i);
-        snprintf(in, sizeof in, "G %s", ppa);
+        snprintf(in, sizeof in, "G %08x 0200000000%02x", i * 7, i);
         serve(b, in, "");
-        put_ppa(b->want, i, ppa);
+        put_ppa(b->want, i, in + 2);
         same_table(b, in);
         refuse(b, in, 9);
     }
@@ -967,7 +964,7 @@ static void start_full(struct bench *b)
     stand(b, 3, TYPE_SLOT);
     stand(b, 4, "0b 01 0082 00000002 00");
     stand(b, 5, "09 01 0080 00000002 01 01 00000009");
-    stand(b, 6, "06 01 0080 00000001 00");
+    stand(b, 6, "06 01 0084 00000001 00");
 }
 
 #define IN_SLOT(s, offset) (SLOTS + SLOT * (s) + (offset))
@@ -989,7 +986,7 @@ static void test_damaged_bytes(struct bench *b)
         { "unused place for a PPA, MAC", PPA_PLACES + 79, "01" },
         { "PPA numbers equal", PPA_PLACES + 10, "00000001" },
         { "attached PPA missing", PPA_PLACES, "00000003" },
-        { "mask closes a stream that holds calls", MASK, "ffc1" },
+        { "mask closes a stream that holds calls", MASK, "ff81" },
         { "mask closes a stream that is attached", MASK, "ff82" },
         { "state 0 with a PPA of the table", IN_SLOT(2, 4), "00000001" },
         { "state 0 with another PPA", IN_SLOT(2, 4), "00000003" },
@@ -1034,7 +1031,7 @@ static void test_damaged_bytes(struct bench *b)
         { "last open number 0", IN_SLOT(0, 14), "00000000" },
         { "number twice on a stream", IN_SLOT(0, 14), "00000007" },
         { "number twice on two streams", IN_SLOT(5, 10), "00000008" },
-        { "two listen for one PPA and SAP", IN_SLOT(6, 8), "01" },
+        { "two listen for one PPA and SAP", IN_SLOT(6, 2), "00800000000101" },
         { "closed stream with a state", IN_SLOT(15, 0), "03" },
         { "closed stream with a mode", IN_SLOT(15, 1), "01" },
         { "closed stream with a SAP", IN_SLOT(15, 2), "0080" },
@@ -1046,7 +1043,7 @@ static void test_damaged_bytes(struct bench *b)
     b->topic = "refusal 16, damaged bytes";
     start_full(b);
     lent_soundly(b, "the table before the damage");
-    for (size_t i = 0; i < sizeof damages / sizeof damages[0]; i++) {
+    for (size_t i = 0; i < COUNT(damages); i++) {
         start_full(b);
         hex(damages[i].bytes, table_of(b) + damages[i].offset);
         not_lent_soundly(b, damages[i].what);
@@ -1055,14 +1052,15 @@ static void test_damaged_bytes(struct bench *b)
 
 static void test_states_of_slots(struct bench *b)
 {
-    static const uint8_t states_bound_in_mode_1[] = { 6, 8, 11, 12, 13 };
+    /* Those in which a stream may be bound and have no indication open. */
+    static const uint8_t sound_states[] = { 6, 8, 11, 12, 13 };
 
     b->topic = "refusal 16, states";
     for (unsigned state = 0; state < 256; state++) {
         start(b);
         stand(b, 7, "00 01 0082 00000001 02");
         table_of(b)[IN_SLOT(7, 0)] = (uint8_t)state;
-        if (memchr(states_bound_in_mode_1, (int)state, 5) != NULL)
+        if (memchr(sound_states, (int)state, sizeof sound_states) != NULL)
             lent_soundly(b, "a state with a row");
         else
             not_lent_soundly(b, "a state without a row, or not of this slot");
@@ -1102,12 +1100,14 @@ static void test_sound_tables(struct bench *b)
     static const char *const sound_slots[] = {
         "06 01 0000 00000001", "06 01 00fe 00000001 08", "06 02 00aa 00000001",
         "06 02 0600 00000001", "06 02 ffff 00000001", "06 02 0000 00000002",
+        "06 01 0080 00000001 00", "0b 01 0080 00000002 00",
+        "06 02 0080 00000001 00", "06 01 0084 00000002 08",
         "09 01 00aa 00000001 08 08 00000001 00000002 00000003 00000004"
         " 00000005 00000006 00000064 ffffffff",
     };
 
     b->topic = "sound tables";
-    for (size_t i = 0; i < sizeof sound_slots / sizeof sound_slots[0]; i++) {
+    for (size_t i = 0; i < COUNT(sound_slots); i++) {
         start_full(b);
         stand(b, 15, sound_slots[i]);
         lent_soundly(b, sound_slots[i]);
@@ -1127,4 +1127,847 @@ static void test_sound_tables(struct bench *b)
     start(b);
     table_of(b)[OPENED] = 0;
     lent_soundly(b, "PPAs and no opening");
+}
+
+/* ---- errors ---- */
+
+/* The nine ways in which an open stream can stand, on stream 2. */
+static const char *const standings[] = {
+    "00", UNBOUND_SLOT, IDLE_SLOT, TYPE_SLOT, CALLING_SLOT, CALLED_SLOT,
+    CONNECTED_SLOT, USER_RESET_SLOT, PEER_RESET_SLOT,
+};
+
+enum { STANDINGS = COUNT(standings) };
+
+static void test_errors_of_step_1(struct bench *b)
+{
+    static const char *const not_supported[] = {
+        "P 2 00000007", "P 2 0000000a", "P 2 00000015", "P 2 0000001b",
+        "P 2 0000001d", "P 2 0000001e", "P 2 0000001f", "P 2 00000020",
+        "C 2 00000007 00000001 00000002",
+    };
+    static const char *const bad[] = {
+        "P 2 00000003", "P 2 00000004", "P 2 00000005", "P 2 00000006",
+        "P 2 00000008", "P 2 00000009", "P 2 0000000e", "P 2 00000010",
+        "P 2 00000012", "P 2 00000014", "P 2 00000016", "P 2 00000018",
+        "P 2 0000001a", "P 2 0000001c", "P 2 00000021", "P 2 000000ff",
+        "P 2 00000100", "P 2 01000000", "P 2 0000010b 00000001",
+        "P 2 ffffffff",
+    };
+
+    b->topic = "errors of step 1, codes";
+    for (size_t i = 0; i < STANDINGS; i++) {
+        start(b);
+        stand(b, 2, standings[i]);
+        for (size_t j = 0; j < COUNT(not_supported); j++)
+            error(b, not_supported[j], NOTSUPPORTED);
+        for (size_t j = 0; j < COUNT(bad); j++)
+            error(b, bad[j], BADPRIM);
+    }
+}
+
+/* L under the size: BADPRIM, in states with and without a row. */
+static void test_errors_of_sizes(struct bench *b)
+{
+    static const struct {
+        const char *code;
+        uint8_t size;
+    } requests[] = {
+        { "0000000b", 8 }, { "00000001", 20 }, { "0000000d", 24 },
+        { "0000000f", 24 }, { "00000013", 12 },
+    };
+
+    b->topic = "errors of step 1, sizes";
+    for (size_t i = 0; i < STANDINGS; i++) {
+        start(b);
+        stand(b, 2, standings[i]);
+        for (size_t j = 0; j < COUNT(requests); j++)
+            for (uint8_t length = 4; length < requests[j].size; length++) {
+                uint8_t record[99];
+
+                message(record, 2, length, requests[j].code);
+                error_bytes(b, record, 99, BADPRIM, requests[j].code);
+            }
+    }
+}
+
+/* L may exceed the fixed size. */
+static void test_longer_messages(struct bench *b)
+{
+    uint8_t record[99];
+
+    b->topic = "messages longer than their size";
+    start(b);
+    stand(b, 2, "00");
+    message(record, 2, 96, "0000000b 00000001 ffffffff");
+    record[98] = 0xff;
+    serve_bytes(b, record, 99, 0, "C 2 00000006 0000000b", "ATTACH, L 96");
+    put_open(b->want, 2, UNBOUND_SLOT);
+    same_table(b, "ATTACH, L 96");
+    message(record, 2, 21, "00000001 00000080 00000002 0001 0000 00000000 ff");
+    serve_bytes(b, record, 99, 0,
+                "C 2 00000004 00000080 00000007 00000018 00000002 00000000"
+                " 02000000000180",
+                "BIND, L 21");
+    put_open(b->want, 2, IDLE_SLOT);
+    same_table(b, "BIND, L 21");
+    message(record, 2, 5, "00000002 ff");
+    serve_bytes(b, record, 99, 0, "F 2; C 2 00000006 00000002", "UNBIND, L 5");
+}
+
+/* OUTSTATE comes before the errors of the later steps. */
+static void test_errors_of_step_2(struct bench *b)
+{
+    b->topic = "errors of step 2";
+    start(b);
+    stand(b, 2, UNBOUND_SLOT);
+    error(b, "P 2 0000000b 00000099", OUTSTATE);
+    error(b, "P 2 0000000d 00000009 00000000 00000001 00000000 00000000",
+          OUTSTATE);
+    error(b, "P 2 0000000f 00000009 00000099 00000001 00000000 00000000",
+          OUTSTATE);
+    error(b, "P 2 00000013 00000000 00000099", OUTSTATE);
+    stand(b, 2, TYPE_SLOT);
+    error(b, "P 2 0000000d " CONNECT_FIELDS " 02000000000984", OUTSTATE);
+    stand(b, 2, "06 02 0080 00000001");
+    error(b, "P 2 0000000d " CONNECT_FIELDS " 02000000000984", OUTSTATE);
+}
+
+static void test_errors_of_attach(struct bench *b)
+{
+    b->topic = "errors of step 3, ATTACH";
+    start(b);
+    stand(b, 2, "00");
+    error(b, "P 2 0000000b 00000000", BADPPA);
+    error(b, "P 2 0000000b 00000003", BADPPA);
+    error(b, "P 2 0000000b 01000001", BADPPA);
+    error(b, "P 2 0000000b ffffffff", BADPPA);
+    serve(b, "P 2 0000000b 00000002", "C 2 00000006 0000000b");
+    put_open(b->want, 2, "03 00 0000 00000002");
+    same_table(b, "attached to PPA 2");
+}
+
+static void test_errors_of_bind(struct bench *b)
+{
+    b->topic = "errors of step 4, BIND";
+    start(b);
+    stand(b, 2, UNBOUND_SLOT);
+    stand(b, 3, IDLE_SLOT);
+    /* The mode, and conn_mgmt, before all others. */
+    error(b, "P 2 00000001 00000081 00000001 0000 0000 00000001", UNSUPPORTED);
+    error(b, "P 2 00000001 00000081 00000001 0003 0000 00000001", UNSUPPORTED);
+    error(b, "P 2 00000001 00000082 00000001 0004 0000 00000000", UNSUPPORTED);
+    error(b, "P 2 00000001 00000082 00000001 0101 0000 00000000", UNSUPPORTED);
+    error(b, "P 2 00000001 00000081 00000001 0001 0001 00000001", UNSUPPORTED);
+    error(b, "P 2 00000001 00000082 00000001 0002 0100 00000000", UNSUPPORTED);
+    error(b, "P 2 00000001 00000081 00000001 0001 0000 00000001", NOAUTO);
+    error(b, "P 2 00000001 00000082 00000001 0002 0000 01000000", NOAUTO);
+    error(b, "P 2 00000001 00000001 00000001 0001 0000 00000000", BADADDR);
+    error(b, "P 2 00000001 00000006 00000001 0001 0000 00000000", BADADDR);
+    error(b, "P 2 00000001 00000006 00000001 0002 0000 00000000", BADADDR);
+    error(b, "P 2 00000001 000000ff 00000001 0002 0000 00000000", BADADDR);
+    error(b, "P 2 00000001 00000100 00000001 0002 0000 00000000", BADADDR);
+    error(b, "P 2 00000001 000005fe 00000001 0001 0000 00000000", BADADDR);
+    error(b, "P 2 00000001 000005ff 00000001 0001 0000 00000000", BADADDR);
+    error(b, "P 2 00000001 00010000 00000001 0002 0000 00000000", BADADDR);
+    error(b, "P 2 00000001 00010080 00000001 0001 0000 00000000", BADADDR);
+    error(b, "P 2 00000001 80000080 00000001 0002 0000 00000000", BADADDR);
+    error(b, "P 2 00000001 00010800 00000001 0002 0000 00000000", BADADDR);
+    error(b, "P 2 00000001 00000600 00000000 0001 0000 00000000", UNSUPPORTED);
+    error(b, "P 2 00000001 0000ffff 00000001 0001 0000 00000000", UNSUPPORTED);
+    error(b, "P 2 00000001 00000080 00000001 0001 0000 00000000", BOUND);
+    error(b, "P 2 00000001 00000080 ffffffff 0001 0000 00000000", BOUND);
+}
+
+/* A stream listens until unbind or close, whatever its state. */
+static void test_bound_meanwhile(struct bench *b)
+{
+    static const char *const listeners[] = {
+        IDLE_SLOT, CALLING_SLOT, CALLED_SLOT, CONNECTED_SLOT, USER_RESET_SLOT,
+        PEER_RESET_SLOT,
+    };
+    static const char *const others[] = {
+        "06 01 0080 00000001 00", "06 02 0080 00000001 00",
+        "06 01 0080 00000002 02", "06 01 0082 00000001 02", UNBOUND_SLOT,
+    };
+    const char *bind = "P 2 00000001 00000080 00000002 0001 0000 00000000";
+    const char *bind_ack = "C 2 00000004 00000080 00000007 00000018 00000002"
+                           " 00000000 02000000000180";
+
+    b->topic = "BOUND";
+    for (size_t i = 0; i < COUNT(listeners); i++) {
+        start(b);
+        stand(b, 2, UNBOUND_SLOT);
+        stand(b, 15, listeners[i]);
+        error(b, bind, BOUND);
+    }
+    for (size_t i = 0; i < COUNT(others); i++) {
+        start(b);
+        stand(b, 2, UNBOUND_SLOT);
+        stand(b, 15, others[i]);
+        serve(b, bind, bind_ack);
+        put_open(b->want, 2, IDLE_SLOT);
+        same_table(b, others[i]);
+    }
+
+    start(b);
+    stand(b, 2, UNBOUND_SLOT);
+    stand(b, 15, IDLE_SLOT);
+    error(b, bind, BOUND);
+    serve(b, "P 15 00000002", "F 15; C 15 00000006 00000002");
+    serve(b, bind, bind_ack);
+    stand(b, 15, UNBOUND_SLOT);
+    error(b, "P 15 00000001 00000080 00000001 0001 0000 00000000", BOUND);
+    serve(b, "X 2", "");
+    serve(b, "P 15 00000001 00000080 00000001 0001 0000 00000000",
+          "C 15 00000004 00000080 00000007 00000018 00000001 00000000"
+          " 02000000000180");
+}
+
+static void test_binds_served(struct bench *b)
+{
+    static const struct {
+        const char *in;
+        const char *out;
+        const char *after;
+    } binds[] = {
+        { "P 2 00000001 00000080 00000000 0001 0000 00000000",
+          "C 2 00000004 00000080 00000007 00000018 00000000 00000000"
+          " 02000000000180",
+          "06 01 0080 00000001 00" },
+        { "P 2 00000001 00000080 00000005 0002 0000 00000000",
+          "C 2 00000004 00000080 00000007 00000018 00000000 00000000"
+          " 02000000000180",
+          "06 02 0080 00000001 00" },
+        { "P 2 00000001 00000000 00000007 0001 0000 00000000",
+          "C 2 00000004 00000000 00000007 00000018 00000007 00000000"
+          " 02000000000100",
+          "06 01 0000 00000001 07" },
+        { "P 2 00000001 000000aa 00000008 0001 0000 00000000",
+          "C 2 00000004 000000aa 00000007 00000018 00000008 00000000"
+          " 020000000001aa",
+          "06 01 00aa 00000001 08" },
+        { "P 2 00000001 000000fe ffffffff 0001 0000 00000000",
+          "C 2 00000004 000000fe 00000007 00000018 00000008 00000000"
+          " 020000000001fe",
+          "06 01 00fe 00000001 08" },
+        { "P 2 00000001 00000600 00000001 0002 0000 00000000",
+          "C 2 00000004 00000600 00000008 00000018 00000000 00000000"
+          " 0200000000010600",
+          "06 02 0600 00000001 00" },
+        { "P 2 00000001 0000ffff 00000000 0002 0000 00000000",
+          "C 2 00000004 0000ffff 00000008 00000018 00000000 00000000"
+          " 020000000001ffff",
+          "06 02 ffff 00000001 00" },
+    };
+
+    b->topic = "binds that are served";
+    for (size_t i = 0; i < COUNT(binds); i++) {
+        start(b);
+        stand(b, 2, UNBOUND_SLOT);
+        stand(b, 3, "0b 01 0080 00000001 00");
+        serve(b, binds[i].in, binds[i].out);
+        put_open(b->want, 2, binds[i].after);
+        same_table(b, binds[i].in);
+    }
+    start(b);
+    stand(b, 2, UNBOUND_SLOT);
+    stand(b, 3, IDLE_SLOT);
+    serve(b, "P 2 00000001 00000080 00000000 0001 0000 00000000",
+          "C 2 00000004 00000080 00000007 00000018 00000000 00000000"
+          " 02000000000180");
+}
+
+static void test_errors_of_connect(struct bench *b)
+{
+    uint8_t record[99];
+
+    b->topic = "errors of step 5, CONNECT_REQ";
+    start(b);
+    stand(b, 2, IDLE_SLOT);
+    error(b, "P 2 0000000d 00000006 00000000 00000001 00000000 00000000",
+          BADQOSTYPE);
+    error(b, "P 2 0000000d 00000007 00000018 01000000 00000000 00000000"
+             " 02000000000984", BADQOSTYPE);
+    error(b, "P 2 0000000d 00000006 00000018 00000000 00000000 00000000"
+             " 02000000000984", BADADDR);
+    error(b, "P 2 0000000d 00000008 00000018 00000000 00000000 00000000"
+             " 0200000000098484", BADADDR);
+    error(b, "P 2 0000000d 00000000 00000000 00000000 00000000 00000000",
+          BADADDR);
+    error(b, "P 2 0000000d 01000007 00000018 00000000 00000000 00000000"
+             " 02000000000984", BADADDR);
+    error(b, "P 2 0000000d 00000007 00000017 00000000 00000000 00000000"
+             " 02000000000984", BADADDR);
+    error(b, "P 2 0000000d 00000007 00000000 00000000 00000000 00000000"
+             " 02000000000984", BADADDR);
+    error(b, "P 2 0000000d 00000007 00000018 00000000 00000000 00000000"
+             " 020000000009", BADADDR);
+    error(b, "P 2 0000000d 00000007 00000018 00000000 00000000 00000000",
+          BADADDR);
+    error(b, "P 2 0000000d 00000007 00000018 00000000 00000000 00000000"
+             " 02000000000985", BADADDR);
+    error(b, "P 2 0000000d 00000007 fffffff9 00000000 00000000 00000000"
+             " 02000000000984", BADADDR);
+    error(b, "P 2 0000000d 00000007 fffffffa 00000000 00000000 00000000"
+             " 02000000000984", BADADDR);
+    error(b, "P 2 0000000d 00000007 0000005a 00000000 00000000 00000000"
+             " 02000000000984", BADADDR);
+
+    message(record, 2, 96, "0000000d 00000007 00000059 00000000 ffffffff"
+                           " ffffffff");
+    hex("ffffffffff fffe", record + 3 + 89);
+    serve_bytes(b, record, 99, 0, "c 2 fffffffffffffe", "offset 89, L 96");
+    put_open(b->want, 2, CALLING_SLOT);
+    same_table(b, "offset 89, L 96");
+    stand(b, 2, IDLE_SLOT);
+    record[2 + 1 + 11] = 90;
+    error_bytes(b, record, 99, BADADDR, "offset 90, L 96");
+    serve(b, "P 2 0000000d 00000007 00000018 00000000 00000005 00000006"
+             " 00000000000006", "c 2 00000000000006");
+}
+
+#define RESPONSE(number, token, qos_length) \
+    "P 2 0000000f " number " " token " " qos_length " ffffffff ffffffff"
+
+static void test_errors_of_response(struct bench *b)
+{
+    b->topic = "errors of step 6, CONNECT_RES";
+    start(b);
+    stand(b, 2, CALLED_SLOT);
+    stand(b, 3, "09 01 0082 00000001 02 01 00000006");
+    stand(b, 4, "00");
+    stand(b, 5, UNBOUND_SLOT);
+    stand(b, 6, "06 01 0084 00000002");
+    stand(b, 7, "06 02 0084 00000001");
+    stand(b, 8, "06 02 0084 00000002");
+    stand(b, 9, "08 01 0084 00000001");
+    stand(b, 10, "0b 01 0084 00000001");
+    stand(b, 11, "0c 01 0084 00000001");
+    stand(b, 12, "0d 01 0084 00000001");
+    stand(b, 13, "0b 01 0084 00000002");
+    error(b, RESPONSE("00000006", "00000099", "00000001"), BADCORR);
+    error(b, RESPONSE("00000000", "00000000", "00000000"), BADCORR);
+    error(b, RESPONSE("00000007", "00000000", "00000000"), BADCORR);
+    error(b, RESPONSE("00000005", "00000099", "00000001"), BADQOSTYPE);
+    error(b, RESPONSE("00000005", "00000000", "01000000"), BADQOSTYPE);
+    error(b, RESPONSE("00000005", "0000000f", "00000000"), BADTOKEN);
+    error(b, RESPONSE("00000005", "00000001", "00000000"), BADTOKEN);
+    error(b, RESPONSE("00000005", "00000011", "00000000"), BADTOKEN);
+    error(b, RESPONSE("00000005", "ffffffff", "00000000"), BADTOKEN);
+    error(b, RESPONSE("00000005", "00000103", "00000000"), BADTOKEN);
+    error(b, RESPONSE("00000005", "00000004", "00000000"), OUTSTATE);
+    error(b, RESPONSE("00000005", "00000005", "00000000"), OUTSTATE);
+    error(b, RESPONSE("00000005", "00000006", "00000000"), OUTSTATE);
+    error(b, RESPONSE("00000005", "0000000a", "00000000"), OUTSTATE);
+    error(b, RESPONSE("00000005", "0000000b", "00000000"), OUTSTATE);
+    error(b, RESPONSE("00000005", "0000000c", "00000000"), OUTSTATE);
+    error(b, RESPONSE("00000005", "0000000d", "00000000"), OUTSTATE);
+    error(b, RESPONSE("00000005", "0000000e", "00000000"), OUTSTATE);
+    error(b, RESPONSE("00000005", "00000007", "00000000"), ACCESS);
+    error(b, RESPONSE("00000005", "00000008", "00000000"), ACCESS);
+    error(b, RESPONSE("00000005", "00000009", "00000000"), ACCESS);
+
+    stand(b, 2, "09 01 0080 00000001 02 02 00000005 00000008");
+    error(b, RESPONSE("00000009", "00000000", "00000000"), BADCORR);
+    error(b, RESPONSE("00000005", "00000000", "00000001"), BADQOSTYPE);
+    error(b, RESPONSE("00000005", "00000000", "00000000"), PENDING);
+    error(b, RESPONSE("00000008", "00000003", "00000000"), PENDING);
+    error(b, RESPONSE("00000008", "00000099", "00000000"), BADTOKEN);
+}
+
+static void test_responses_served(struct bench *b)
+{
+    b->topic = "accepts";
+    start(b);
+    stand(b, 2, CALLED_SLOT);
+    serve(b, RESPONSE("00000005", "00000003", "00000000"),
+          "a 2 00000005; C 2 00000006 0000000f");
+    put_open(b->want, 2, CONNECTED_SLOT);
+    same_table(b, "the own token");
+    refuse(b, "I 00000001 02000000000180 02000000000284", 8);
+
+    start(b);
+    stand(b, 2, CALLED_SLOT);
+    stand(b, 15, "06 01 0084 00000001");
+    serve(b, RESPONSE("00000005", "00000010", "00000000"),
+          "a 15 00000005; C 2 00000006 0000000f");
+    put_open(b->want, 2, IDLE_SLOT);
+    put_open(b->want, 15, "0b 01 0084 00000001");
+    same_table(b, "another stream carries the last open call");
+
+    start(b);
+    stand(b, 2, "09 01 0080 00000001 08 03 00000005 00000007 00000006");
+    stand(b, 0, "06 01 0084 00000001 03");
+    serve(b, RESPONSE("00000007", "00000001", "00000000"),
+          "a 0 00000007; C 2 00000006 0000000f");
+    put_open(b->want, 2, "09 01 0080 00000001 08 02 00000005 00000006");
+    put_open(b->want, 0, "0b 01 0084 00000001 03");
+    same_table(b, "a listener carries the middle one of three");
+    refuse(b, "I 00000001 02000000000184 02000000000284", 8);
+
+    start(b);
+    stand(b, 2, CALLED_SLOT);
+    stand(b, 3, "06 01 0080 00000001 00");
+    serve(b, RESPONSE("00000005", "00000004", "00000000"),
+          "a 3 00000005; C 2 00000006 0000000f");
+    put_open(b->want, 2, IDLE_SLOT);
+    put_open(b->want, 3, "0b 01 0080 00000001 00");
+    same_table(b, "a carrier of the same SAP");
+}
+
+static void test_errors_of_disconnect(struct bench *b)
+{
+    b->topic = "errors of step 7, DISCONNECT_REQ";
+    start(b);
+    stand(b, 2, CALLED_SLOT);
+    stand(b, 3, "09 01 0082 00000001 02 01 00000006");
+    error(b, "P 2 00000013 00000000 00000000", BADCORR);
+    error(b, "P 2 00000013 00000000 00000006", BADCORR);
+    error(b, "P 2 00000013 00000000 01000005", BADCORR);
+    stand(b, 2, CALLING_SLOT);
+    error(b, "P 2 00000013 00000000 00000006", BADCORR);
+    stand(b, 2, CONNECTED_SLOT);
+    error(b, "P 2 00000013 00000000 00000001", BADCORR);
+}
+
+static void test_denials(struct bench *b)
+{
+    b->topic = "denials";
+    start(b);
+    stand(b, 2, "09 01 0080 00000001 08 03 00000005 00000007 00000006");
+    serve(b, "P 2 00000013 00000abc 00000005",
+          "d 2 00000005 00000abc; C 2 00000006 00000013");
+    put_open(b->want, 2, "09 01 0080 00000001 08 02 00000007 00000006");
+    same_table(b, "the oldest of three");
+    serve(b, "P 2 00000013 ffffffff 00000006",
+          "d 2 00000006 ffffffff; C 2 00000006 00000013");
+    put_open(b->want, 2, "09 01 0080 00000001 08 01 00000007");
+    same_table(b, "the newest of two");
+    serve(b, "P 2 00000013 00000000 00000007",
+          "d 2 00000007 00000000; C 2 00000006 00000013");
+    put_open(b->want, 2, "06 01 0080 00000001 08");
+    same_table(b, "the last");
+}
+
+/* ---- rows ---- */
+
+struct row {
+    const char *in;
+    const char *from;
+    const char *out;
+    const char *after;
+};
+
+static const struct row *find_row(const struct row *rows, size_t count,
+                                  const char *in, const char *from)
+{
+    for (size_t i = 0; i < count; i++)
+        if (strcmp(rows[i].in, in) == 0 && strcmp(rows[i].from, from) == 0)
+            return &rows[i];
+    return NULL;
+}
+
+#define INFO_MESSAGE "P 2 00000000"
+#define TOKEN_MESSAGE "P 2 00000011"
+#define ATTACH_MESSAGE "P 2 0000000b 00000001"
+#define DETACH_MESSAGE "P 2 0000000c"
+#define BIND_MESSAGE "P 2 00000001 00000080 00000002 0001 0000 00000000"
+#define UNBIND_MESSAGE "P 2 00000002"
+#define CONNECT_MESSAGE "P 2 0000000d " CONNECT_FIELDS " 02000000000984"
+#define ACCEPT_MESSAGE "P 2 0000000f 00000005 00000000 00000000 00000000 00000000"
+#define DISCONNECT_MESSAGE "P 2 00000013 00000021 00000000"
+#define DENY_MESSAGE "P 2 00000013 00000021 00000005"
+#define RESET_MESSAGE "P 2 00000017"
+#define RESET_RES_MESSAGE "P 2 00000019"
+
+#define TOKEN_REPLY "C 2 00000012 00000003"
+#define UNBIND_REPLY "F 2; C 2 00000006 00000002"
+#define DISCONNECT_REPLY \
+    "d 2 00000000 00000021; F 2; C 2 00000006 00000013"
+#define DENY_BADCORR "C 2 00000005 00000013 00000005 00000000"
+
+static const char *const request_messages[] = {
+    INFO_MESSAGE, TOKEN_MESSAGE, ATTACH_MESSAGE, DETACH_MESSAGE, BIND_MESSAGE,
+    UNBIND_MESSAGE, CONNECT_MESSAGE, ACCEPT_MESSAGE, DISCONNECT_MESSAGE,
+    DENY_MESSAGE, RESET_MESSAGE, RESET_RES_MESSAGE,
+};
+
+static const struct row request_rows[] = {
+    { INFO_MESSAGE, "00", "C 2 " INFO_UNBOUND("00000000"), "00" },
+    { INFO_MESSAGE, UNBOUND_SLOT, "C 2 " INFO_UNBOUND("00000003"),
+      UNBOUND_SLOT },
+    { INFO_MESSAGE, IDLE_SLOT, "C 2 " INFO_BOUND("00000006"), IDLE_SLOT },
+    { INFO_MESSAGE, TYPE_SLOT, "C 2 " INFO_TYPE, TYPE_SLOT },
+    { INFO_MESSAGE, CALLING_SLOT, "C 2 " INFO_BOUND("00000008"),
+      CALLING_SLOT },
+    { INFO_MESSAGE, CALLED_SLOT, "C 2 " INFO_BOUND("00000009"), CALLED_SLOT },
+    { INFO_MESSAGE, CONNECTED_SLOT, "C 2 " INFO_BOUND("0000000b"),
+      CONNECTED_SLOT },
+    { INFO_MESSAGE, USER_RESET_SLOT, "C 2 " INFO_BOUND("0000000c"),
+      USER_RESET_SLOT },
+    { INFO_MESSAGE, PEER_RESET_SLOT, "C 2 " INFO_BOUND("0000000d"),
+      PEER_RESET_SLOT },
+
+    { TOKEN_MESSAGE, "00", TOKEN_REPLY, "00" },
+    { TOKEN_MESSAGE, UNBOUND_SLOT, TOKEN_REPLY, UNBOUND_SLOT },
+    { TOKEN_MESSAGE, IDLE_SLOT, TOKEN_REPLY, IDLE_SLOT },
+    { TOKEN_MESSAGE, TYPE_SLOT, TOKEN_REPLY, TYPE_SLOT },
+    { TOKEN_MESSAGE, CALLING_SLOT, TOKEN_REPLY, CALLING_SLOT },
+    { TOKEN_MESSAGE, CALLED_SLOT, TOKEN_REPLY, CALLED_SLOT },
+    { TOKEN_MESSAGE, CONNECTED_SLOT, TOKEN_REPLY, CONNECTED_SLOT },
+    { TOKEN_MESSAGE, USER_RESET_SLOT, TOKEN_REPLY, USER_RESET_SLOT },
+    { TOKEN_MESSAGE, PEER_RESET_SLOT, TOKEN_REPLY, PEER_RESET_SLOT },
+
+    { ATTACH_MESSAGE, "00", "C 2 00000006 0000000b", UNBOUND_SLOT },
+    { DETACH_MESSAGE, UNBOUND_SLOT, "C 2 00000006 0000000c", "00" },
+    { BIND_MESSAGE, UNBOUND_SLOT,
+      "C 2 00000004 00000080 00000007 00000018 00000002 00000000"
+      " 02000000000180",
+      IDLE_SLOT },
+    { UNBIND_MESSAGE, IDLE_SLOT, UNBIND_REPLY, UNBOUND_SLOT },
+    { UNBIND_MESSAGE, TYPE_SLOT, UNBIND_REPLY, UNBOUND_SLOT },
+    { CONNECT_MESSAGE, IDLE_SLOT, "c 2 02000000000984", CALLING_SLOT },
+    { ACCEPT_MESSAGE, CALLED_SLOT, "a 2 00000005; C 2 00000006 0000000f",
+      CONNECTED_SLOT },
+
+    { DISCONNECT_MESSAGE, CALLING_SLOT,
+      "d 2 00000000 00000021; C 2 00000006 00000013", IDLE_SLOT },
+    { DISCONNECT_MESSAGE, CALLED_SLOT, DENY_BADCORR, CALLED_SLOT },
+    { DISCONNECT_MESSAGE, CONNECTED_SLOT, DISCONNECT_REPLY, IDLE_SLOT },
+    { DISCONNECT_MESSAGE, USER_RESET_SLOT, DISCONNECT_REPLY, IDLE_SLOT },
+    { DISCONNECT_MESSAGE, PEER_RESET_SLOT, DISCONNECT_REPLY, IDLE_SLOT },
+
+    { DENY_MESSAGE, CALLING_SLOT, DENY_BADCORR, CALLING_SLOT },
+    { DENY_MESSAGE, CALLED_SLOT,
+      "d 2 00000005 00000021; C 2 00000006 00000013", IDLE_SLOT },
+    { DENY_MESSAGE, CONNECTED_SLOT, DENY_BADCORR, CONNECTED_SLOT },
+    { DENY_MESSAGE, USER_RESET_SLOT, DENY_BADCORR, USER_RESET_SLOT },
+    { DENY_MESSAGE, PEER_RESET_SLOT, DENY_BADCORR, PEER_RESET_SLOT },
+
+    { RESET_MESSAGE, CONNECTED_SLOT, "r 2", USER_RESET_SLOT },
+    { RESET_RES_MESSAGE, PEER_RESET_SLOT, "s 2; C 2 00000006 00000019",
+      CONNECTED_SLOT },
+};
+
+/* P and C from a user are treated alike. */
+static void try_request(struct bench *b, const char *in, const char *from,
+                        uint8_t kind)
+{
+    size_t count = COUNT(request_rows);
+    const struct row *row = find_row(request_rows, count, in, from);
+    uint8_t record[LONGEST_TEXT];
+    size_t size = parse_records(in, record);
+
+    record[0] = kind;
+    start(b);
+    stand(b, 2, from);
+    stand(b, 3, "09 01 0082 00000001 02 01 00000006");
+    if (row == NULL) {
+        error_bytes(b, record, size, OUTSTATE, in);
+        return;
+    }
+    serve_bytes(b, record, size, 0, row->out, in);
+    put_open(b->want, 2, row->after);
+    same_table(b, in);
+}
+
+static void test_state_rows(struct bench *b)
+{
+    size_t count = COUNT(request_messages);
+
+    b->topic = "state rows";
+    for (size_t i = 0; i < count; i++)
+        for (size_t j = 0; j < STANDINGS; j++) {
+            try_request(b, request_messages[i], standings[j], 'P');
+            try_request(b, request_messages[i], standings[j], 'C');
+        }
+}
+
+#define ACCEPTED_EVENT "A 2 02000000000985"
+#define GONE_EVENT "D 2 00000021"
+#define WITHDRAWN_EVENT "W 2 00000005 00000021"
+#define RESET_EVENT "R 2 00000021"
+#define CONFIRMED_EVENT "S 2"
+
+#define GONE_IND "P 2 00000014 00000701 00000021 00000000"
+
+static const char *const events[] = {
+    ACCEPTED_EVENT, GONE_EVENT, WITHDRAWN_EVENT, RESET_EVENT, CONFIRMED_EVENT,
+};
+
+static const struct row event_rows[] = {
+    { ACCEPTED_EVENT, CALLING_SLOT,
+      "P 2 00000010 00000007 00000018 00000000 00000000 00000000"
+      " 02000000000985",
+      CONNECTED_SLOT },
+    { GONE_EVENT, CALLING_SLOT, GONE_IND, IDLE_SLOT },
+    { GONE_EVENT, CONNECTED_SLOT, "F 2; " GONE_IND, IDLE_SLOT },
+    { GONE_EVENT, USER_RESET_SLOT, "F 2; " GONE_IND, IDLE_SLOT },
+    { GONE_EVENT, PEER_RESET_SLOT, "F 2; " GONE_IND, IDLE_SLOT },
+    { WITHDRAWN_EVENT, CALLED_SLOT, "P 2 00000014 00000701 00000021 00000005",
+      IDLE_SLOT },
+    { RESET_EVENT, CONNECTED_SLOT, "F 2; P 2 00000018 00000701 00000021",
+      PEER_RESET_SLOT },
+    { CONFIRMED_EVENT, USER_RESET_SLOT, "F 2; P 2 0000001a", CONNECTED_SLOT },
+};
+
+static void try_event(struct bench *b, const char *in, const char *from)
+{
+    size_t count = COUNT(event_rows);
+    const struct row *row = find_row(event_rows, count, in, from);
+
+    start(b);
+    stand(b, 2, from);
+    stand(b, 3, "09 01 0082 00000001 02 01 00000006");
+    if (row == NULL) {
+        refuse(b, in, 6);
+        return;
+    }
+    serve(b, in, row->out);
+    put_open(b->want, 2, row->after);
+    same_table(b, in);
+}
+
+static void test_event_rows(struct bench *b)
+{
+    size_t count = COUNT(events);
+
+    b->topic = "event rows";
+    for (size_t i = 0; i < count; i++)
+        for (size_t j = 0; j < STANDINGS; j++)
+            try_event(b, events[i], standings[j]);
+}
+
+/* The stream of an I is the one that listens. */
+static void test_call_rows(struct bench *b)
+{
+    const char *call = "I 00000001 02000000000180 ffffffffffffff";
+    static const uint32_t refusals[STANDINGS] = { 7, 7, 0, 7, 8, 0, 8, 8, 8 };
+
+    b->topic = "event rows of I";
+    for (size_t i = 0; i < STANDINGS; i++)
+        if (refusals[i] != 0) {
+            start(b);
+            stand(b, 2, standings[i]);
+            refuse(b, call, refusals[i]);
+        }
+
+    start(b);
+    stand(b, 2, IDLE_SLOT);
+    stand(b, 1, "06 01 0080 00000002 02");
+    serve(b, call,
+          "P 2 0000000e 00000011 00000007 00000024 00000007 0000002b 00000000"
+          " 00000000 00000000 02000000000180 ffffffffffffff");
+    put_open(b->want, 2, "09 01 0080 00000001 02 01 00000011");
+    put_number(b->want + COUNTER, 0x12);
+    same_table(b, "I from 6");
+    serve(b, "I 00000001 02000000000180 02000000000283",
+          "P 2 0000000e 00000012 00000007 00000024 00000007 0000002b 00000000"
+          " 00000000 00000000 02000000000180 02000000000283");
+    put_open(b->want, 2, "09 01 0080 00000001 02 02 00000011 00000012");
+    put_number(b->want + COUNTER, 0x13);
+    same_table(b, "I from 9");
+    refuse(b, call, 8);
+}
+
+static void test_withdrawals(struct bench *b)
+{
+    b->topic = "withdrawals";
+    start(b);
+    stand(b, 2, "09 01 0080 00000001 08 03 00000005 00000007 00000006");
+    serve(b, "W 2 00000007 ffffffff",
+          "P 2 00000014 00000701 ffffffff 00000007");
+    put_open(b->want, 2, "09 01 0080 00000001 08 02 00000005 00000006");
+    same_table(b, "the middle one of three");
+    serve(b, "W 2 00000005 00000000",
+          "P 2 00000014 00000701 00000000 00000005");
+    put_open(b->want, 2, "09 01 0080 00000001 08 01 00000006");
+    same_table(b, "the oldest of two");
+    refuse(b, "W 2 00000005 00000000", 6);
+    serve(b, "W 2 00000006 00000001",
+          "P 2 00000014 00000701 00000001 00000006");
+    put_open(b->want, 2, "06 01 0080 00000001 08");
+    same_table(b, "the last");
+}
+
+static void test_close(struct bench *b)
+{
+    static const char *const out[STANDINGS] = {
+        "", "", "", "", "d 2 00000000 00000000", "d 2 00000005 00000000",
+        "d 2 00000000 00000000", "d 2 00000000 00000000",
+        "d 2 00000000 00000000",
+    };
+
+    b->topic = "close";
+    for (size_t i = 0; i < STANDINGS; i++) {
+        start(b);
+        stand(b, 2, standings[i]);
+        stand(b, 3, "09 01 0082 00000001 02 01 00000006");
+        serve(b, "X 2", out[i]);
+        put_closed(b->want, 2);
+        same_table(b, standings[i]);
+        refuse(b, "X 2", 2);
+        serve_open(b, 0);
+        serve_open(b, 1);
+        serve_open(b, 2);
+    }
+
+    start(b);
+    stand(b, 15, "09 01 0080 00000001 08 08 00000008 00000001 ffffffff 00000004"
+                 " 00000003 00000006 00000007 00000002");
+    serve(b, "X 15",
+          "d 15 00000008 00000000; d 15 00000001 00000000;"
+          "d 15 ffffffff 00000000; d 15 00000004 00000000;"
+          "d 15 00000003 00000000; d 15 00000006 00000000;"
+          "d 15 00000007 00000000; d 15 00000002 00000000");
+    put_closed(b->want, 15);
+    same_table(b, "eight open, oldest first");
+}
+
+/* ---- correlation numbers ---- */
+
+static void call_takes(struct bench *b, const char *number)
+{
+    char out[LONGEST_TEXT];
+
+    snprintf(out, sizeof out,
+             "P 2 0000000e %s 00000007 00000024 00000007 0000002b 00000000"
+             " 00000000 00000000 02000000000180 02000000000284",
+             number);
+    serve(b, "I 00000001 02000000000180 02000000000284", out);
+}
+
+static void start_counter(struct bench *b, uint32_t counter, const char *slot)
+{
+    start(b);
+    put_number(table_of(b) + COUNTER, counter);
+    stand(b, 2, slot);
+}
+
+static void test_counter_wraps(struct bench *b)
+{
+    b->topic = "the counter wraps";
+    start_counter(b, 0xffffffff, "06 01 0080 00000001 08");
+    call_takes(b, "ffffffff");
+    put_open(b->want, 2, "09 01 0080 00000001 08 01 ffffffff");
+    put_number(b->want + COUNTER, 0);
+    same_table(b, "one past 4294967295 is 0");
+    call_takes(b, "00000001");
+    put_open(b->want, 2, "09 01 0080 00000001 08 02 ffffffff 00000001");
+    put_number(b->want + COUNTER, 2);
+    same_table(b, "0 is passed over");
+
+    start_counter(b, 0xfffffffe, "09 01 0080 00000001 08 03 ffffffff 00000001"
+                                 " 00000003");
+    call_takes(b, "fffffffe");
+    put_open(b->want, 2, "09 01 0080 00000001 08 04 ffffffff 00000001 00000003"
+                         " fffffffe");
+    put_number(b->want + COUNTER, 0xffffffff);
+    same_table(b, "the counter may stand at an open number");
+    call_takes(b, "00000002");
+    put_open(b->want, 2, "09 01 0080 00000001 08 05 ffffffff 00000001 00000003"
+                         " fffffffe 00000002");
+    put_number(b->want + COUNTER, 3);
+    same_table(b, "open numbers and 0 are passed over at the wrap");
+    call_takes(b, "00000004");
+    put_open(b->want, 2, "09 01 0080 00000001 08 06 ffffffff 00000001 00000003"
+                         " fffffffe 00000002 00000004");
+    put_number(b->want + COUNTER, 5);
+    same_table(b, "an open number is passed over");
+}
+
+static void test_numbers_of_other_streams(struct bench *b)
+{
+    b->topic = "numbers open on other streams";
+    start_counter(b, 0xffffffff, "06 01 0080 00000001 08");
+    stand(b, 0, "09 01 0082 00000001 08 02 00000001 ffffffff");
+    stand(b, 15, "09 01 0080 00000002 08 01 00000002");
+    call_takes(b, "00000003");
+    put_open(b->want, 2, "09 01 0080 00000001 08 01 00000003");
+    put_number(b->want + COUNTER, 4);
+    same_table(b, "passed over too");
+
+    serve(b, "X 15", "d 15 00000002 00000000");
+    put_number(table_of(b) + COUNTER, 1);
+    call_takes(b, "00000002");
+    put_open(b->want, 2, "09 01 0080 00000001 08 02 00000003 00000002");
+    put_number(b->want + COUNTER, 3);
+    same_table(b, "a number that is open no more is taken again");
+}
+
+/* Refused calls and other calls leave the counter alone. */
+static void test_counter_stays(struct bench *b)
+{
+    b->topic = "the counter stays";
+    start_counter(b, 0, "09 01 0080 00000001 01 01 00000005");
+    refuse(b, "I 00000001 02000000000180 02000000000284", 8);
+    refuse(b, "I 00000001 02000000000182 02000000000284", 7);
+    serve(b, "W 2 00000005 00000000",
+          "P 2 00000014 00000701 00000000 00000005");
+    put_open(b->want, 2, "06 01 0080 00000001 01");
+    same_table(b, "W");
+    call_takes(b, "00000001");
+    put_open(b->want, 2, "09 01 0080 00000001 01 01 00000001");
+    put_number(b->want + COUNTER, 2);
+    same_table(b, "from 0 on");
+}
+
+int main(void)
+{
+    static void (*const tests[])(struct bench *) = {
+        test_fresh,
+        test_record_sizes,
+        test_measured_info,
+        test_measured_limits,
+        test_measured_connect,
+        test_measured_counts,
+        test_slips,
+        test_replay_examples,
+        test_replay_kinds,
+        test_replay_ends,
+        test_replay_long,
+        test_refusal_1,
+        test_refusal_2,
+        test_refusal_3,
+        test_refusals_4_and_5,
+        test_refusal_6,
+        test_refusal_7,
+        test_refusal_8,
+        test_refusal_9,
+        test_refusal_10,
+        test_order_of_refusals,
+        test_length_of_image,
+        test_damaged_bytes,
+        test_states_of_slots,
+        test_slots_above_6,
+        test_sound_tables,
+        test_errors_of_step_1,
+        test_errors_of_sizes,
+        test_longer_messages,
+        test_errors_of_step_2,
+        test_errors_of_attach,
+        test_errors_of_bind,
+        test_bound_meanwhile,
+        test_binds_served,
+        test_errors_of_connect,
+        test_errors_of_response,
+        test_responses_served,
+        test_errors_of_disconnect,
+        test_denials,
+        test_state_rows,
+        test_event_rows,
+        test_call_rows,
+        test_withdrawals,
+        test_close,
+        test_counter_wraps,
+        test_numbers_of_other_streams,
+        test_counter_stays,
+    };
+    static struct bench bench;
+
+    for (size_t i = 0; i < COUNT(tests); i++)
+        tests[i](&bench);
+    printf("%u passed, %u failed\n", bench.passed, bench.failed);
+    return bench.failed == 0 ? 0 : 1;
 }
