@@ -32,12 +32,21 @@ static void fill_capture(struct capture *capture)
     }
 }
 
-static void print_amiss(const struct capture *capture, uint64_t number, const struct call *call, enum fault fault,
-                        uint32_t answer, const char *amiss)
+/* A capture being run. */
+struct run {
+    const struct capture *capture;
+    struct tally *tally;
+    uint64_t calls; /* made so far */
+    uint64_t amiss; /* of them, not as the rule paper asks */
+    uint8_t table[SECOND_TABLE_SIZE];
+};
+
+static void print_amiss(const struct run *run, const struct call *call, enum fault fault, uint32_t answer,
+                        const char *amiss)
 {
     size_t whole = record_size_of_kind(call->bytes[AT_KIND]);
     size_t shown = whole == 0 || whole > call->size ? call->size : whole;
-    fprintf(stderr, "seed %" PRIu64 ", call %" PRIu64 ": %s", capture->seed, number, amiss);
+    fprintf(stderr, "seed %" PRIu64 ", call %" PRIu64 ": %s", run->capture->seed, run->calls, amiss);
     if (fault != FAULTS)
         fprintf(stderr, " (%u %s, %s)", fault_infos[fault].refusal, fault_infos[fault].error_name,
                 fault_infos[fault].test);
@@ -47,50 +56,49 @@ static void print_amiss(const struct capture *capture, uint64_t number, const st
     fprintf(stderr, "\n");
 }
 
-/* Makes one call, counts it and takes over its table. Returns how many bytes its record has, or 0 where reading
- * ends there; a call with anything amiss is not counted. */
-static size_t run_call(const struct capture *capture, uint64_t number, const struct call *call, uint8_t *table,
-                       struct tally *tally, uint64_t *amiss_calls)
+/* The size of the record at the start of the lent bytes, or 0 where reading ends there. */
+static size_t size_of_record(const struct call *call)
+{
+    size_t whole = record_size_of_kind(call->bytes[AT_KIND]);
+    return whole > call->size ? 0 : whole;
+}
+
+/* Makes one call, counts it unless anything is amiss, and takes over its table. */
+static void run_call(struct run *run, const struct call *call)
 {
     struct outcome outcome;
     fault_set faults = faults_of_call(call);
-    enum fault fault = first_fault(faults);
-    bool ends = fault == KIND_UNKNOWN || fault == BODY_CUT;
-    size_t size = ends ? 0 : record_size_of_kind(call->bytes[AT_KIND]);
     check_call(call, &outcome);
-    const char *amiss = check_outcome(call, fault, &outcome);
-    if (second_record_size(call->bytes, call->size) != size)
-        amiss = "not this size of the record";
-    if (amiss != NULL) {
-        print_amiss(capture, number, call, fault, outcome.answer, amiss);
-        ++*amiss_calls;
+    run->calls++;
+    const char *amiss = check_outcome(call, first_fault(faults), &outcome);
+    if (second_record_size(call->bytes, call->size) != size_of_record(call))
+        amiss = "not the size of the record";
+    if (amiss == NULL) {
+        tally_call(run->tally, call, faults);
     } else {
-        tally_call(tally, call, faults);
+        print_amiss(run, call, first_fault(faults), outcome.answer, amiss);
+        run->amiss++;
     }
-    memcpy(table, outcome.table, sizeof outcome.table);
-    return size;
+    memcpy(run->table, outcome.table, sizeof run->table);
 }
 
-/* Runs a capture from a fresh table. Returns how many of its calls had anything amiss. */
-static uint64_t run_capture(const struct capture *capture, struct tally *tally)
+/* Runs a capture from a fresh table. Returns whether it has all its records and nothing was amiss. */
+static bool run_capture(const struct capture *capture, struct tally *tally)
 {
-    uint8_t table[SECOND_TABLE_SIZE];
-    uint64_t amiss_calls = 0;
-    uint64_t number = 0;
-    size_t at = 0;
-    (void)second_fresh(table, sizeof table);
-    while (at < capture->size) {
-        uint8_t before[SECOND_TABLE_SIZE];
-        memcpy(before, table, sizeof before);
-        struct call call = { capture->bytes + at, capture->size - at, before };
-        size_t size = run_call(capture, ++number, &call, table, tally, &amiss_calls);
-        at = size == 0 ? capture->size : at + size;
+    struct run run = { .capture = capture, .tally = tally };
+    struct call call = { capture->bytes, capture->size, run.table };
+    (void)second_fresh(run.table, sizeof run.table);
+    while (call.size > 0) {
+        size_t size = size_of_record(&call);
+        run_call(&run, &call);
+        if (size == 0)
+            break;
+        call.bytes += size;
+        call.size -= size;
     }
-    if (number != capture->calls) {
-        fprintf(stderr, "seed %" PRIu64 ": %" PRIu64 " records\n", capture->seed, number);
-        amiss_calls++;
-    }
-    return amiss_calls;
+    if (run.calls != capture->calls)
+        fprintf(stderr, "seed %" PRIu64 ": %" PRIu64 " records\n", capture->seed, run.calls);
+    return run.calls == capture->calls && run.amiss == 0;
 }
 
 /* Runs the captures and prints what they reached. Returns whether nothing was amiss and no cell is empty. */
@@ -98,7 +106,7 @@ static bool cover(uint64_t captures, uint64_t calls)
 {
     struct tally tally;
     struct capture capture = { .calls = calls, .bytes = malloc((size_t)calls * RECORD_SIZE + 1) };
-    uint64_t amiss_calls = 0;
+    bool sound = true;
     if (capture.bytes == NULL) {
         perror("coverage");
         return false;
@@ -106,10 +114,10 @@ static bool cover(uint64_t captures, uint64_t calls)
     memset(&tally, 0, sizeof tally);
     for (capture.seed = 1; capture.seed <= captures; capture.seed++) {
         fill_capture(&capture);
-        amiss_calls += run_capture(&capture, &tally);
+        sound = run_capture(&capture, &tally) && sound;
     }
     free(capture.bytes);
-    return report_print(&tally) == 0 && amiss_calls == 0;
+    return report_print(&tally) == 0 && sound;
 }
 
 int main(int argc, char **argv)

@@ -4,6 +4,7 @@
 #include <stdbool.h>
 #include <string.h>
 
+#include "array.h"
 #include "image.h"
 #include "record.h"
 
@@ -207,7 +208,7 @@ static const struct request_rule request_rules[] = {
 
 static const struct request_rule *find_request_rule(uint32_t code)
 {
-    for (size_t i = 0; i < sizeof request_rules / sizeof request_rules[0]; i++)
+    for (size_t i = 0; i < LENGTH_OF(request_rules); i++)
         if (request_rules[i].code == code)
             return &request_rules[i];
     return NULL;

@@ -2,9 +2,8 @@
 
 #include <assert.h>
 
-#include "image.h"
+#include "array.h"
 #include "make.h"
-#include "pick.h"
 
 /* --- The table of choices */
 
@@ -14,8 +13,9 @@ struct choice {
     uint32_t subject;
 };
 
+/* A further kind of record is a further maker and a line here. */
 static const struct choice choices[] = {
-    { 40, make_opening, 0 },
+    { 30, make_opening, 0 },
     { 4, make_closing, 0 },
     { 1, make_ppa, 0 },
 
@@ -25,18 +25,18 @@ static const struct choice choices[] = {
     { 2, make_right_request, DETACH_REQ },
     { 60, make_right_request, BIND_REQ },
     { 3, make_right_request, UNBIND_REQ },
-    { 8, make_right_request, CONNECT_REQ },
-    { 10, make_right_request, CONNECT_RES },
+    { 14, make_right_request, CONNECT_REQ },
+    { 24, make_right_request, CONNECT_RES },
     { 4, make_right_request, DISCONNECT_REQ },
-    { 8, make_right_request, RESET_REQ },
-    { 6, make_right_request, RESET_RES },
+    { 12, make_right_request, RESET_REQ },
+    { 5, make_right_request, RESET_RES },
 
-    { 4, make_wrong_request, ATTACH_REQ },
-    { 16, make_wrong_request, BIND_REQ },
-    { 8, make_wrong_request, CONNECT_REQ },
-    { 16, make_wrong_request, CONNECT_RES },
+    { 3, make_wrong_request, ATTACH_REQ },
+    { 20, make_wrong_request, BIND_REQ },
+    { 10, make_wrong_request, CONNECT_REQ },
+    { 40, make_wrong_request, CONNECT_RES },
     { 6, make_wrong_request, DISCONNECT_REQ },
-    { 16, make_misplaced_request, 0 },
+    { 24, make_misplaced_request, 0 },
     { 6, make_cut_request, 0 },
 
     { 3, make_unsupported, 0 },
@@ -47,18 +47,18 @@ static const struct choice choices[] = {
     { 40, make_call, 0 },
     { 5, make_call_too_many, 0 },
     { 3, make_call_for_nobody, 0 },
-    { 10, make_right_event, 'A' },
+    { 8, make_right_event, 'A' },
     { 4, make_right_event, 'D' },
     { 4, make_right_event, 'W' },
-    { 8, make_right_event, 'R' },
-    { 6, make_right_event, 'S' },
-    { 8, make_misplaced_event, 0 },
+    { 12, make_right_event, 'R' },
+    { 4, make_right_event, 'S' },
+    { 10, make_misplaced_event, 0 },
 
     { 5, make_for_no_stream, 0 },
     { 3, make_again, 0 },
 };
 
-#define CHOICES (sizeof choices / sizeof choices[0])
+#define CHOICES LENGTH_OF(choices)
 
 static_assert(CHOICES <= PLAN_WEIGHTS, "the plan has a weight for each choice");
 
@@ -88,11 +88,12 @@ static uint8_t plan_sap(struct dice *dice)
     return saps[dice_below(dice, sizeof saps)];
 }
 
+/* A line's weight is up to eight times that in the table, so that a capture has its own leanings. */
 static void plan_capture(struct plan *plan, struct dice *dice)
 {
     plan->additions = plan_additions(dice);
     plan->streams = plan_streams(dice);
-    plan->ends_reading = dice_one_in(dice, 6);
+    plan->ends_reading = dice_one_in(dice, 5);
     for (unsigned i = 0; i < PLAN_SAPS; i++)
         plan->saps[i] = plan_sap(dice);
     for (size_t i = 0; i < CHOICES; i++)
@@ -124,9 +125,9 @@ static const struct choice *draw_choice(struct generator *generator)
 static void make_by_choice(struct generator *generator, struct record *record)
 {
     const struct choice *choice;
-    do
+    do {
         choice = draw_choice(generator);
-    while (!choice->make(generator, choice->subject, record));
+    } while (!choice->make(generator, choice->subject, record));
 }
 
 static void make_next(struct generator *generator, struct record *record)

@@ -15,10 +15,10 @@ maker make_opening;
 maker make_closing;
 
 /* make_request.c: complete requests. The subject is the code. */
-maker make_right_request;  /* in a state with a row */
-maker make_wrong_request;  /* in a state with a row, some of its fields wrong */
-maker make_misplaced_request; /* of any code that is served, to any stream, right or wrong */
-maker make_cut_request;    /* of any code that is served, L under its size */
+maker make_right_request;     /* in a state with a row */
+maker make_wrong_request;     /* in a state with a row, some of its fields wrong */
+maker make_misplaced_request; /* of any code that is served, to any open stream, right or wrong */
+maker make_cut_request;       /* of any code that is served, to any open stream, L under its size */
 
 /* make_message.c: messages that are not requests we serve, and awkward ones. */
 maker make_unsupported;

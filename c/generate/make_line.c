@@ -3,6 +3,7 @@
 
 #include <string.h>
 
+#include "array.h"
 #include "image.h"
 #include "pick.h"
 
@@ -103,8 +104,6 @@ static const struct event events[] = {
     { 'S', STATE(USER_RESET) },
 };
 
-enum { EVENTS = sizeof events / sizeof events[0] };
-
 /* Writes the event with its body for the stream, an open number in a W. */
 static void put_event(struct generator *generator, struct record *record, uint8_t kind, unsigned stream)
 {
@@ -147,7 +146,7 @@ bool make_misplaced_event(struct generator *generator, uint32_t subject, struct 
     int stream = pick_stream(generator, ALL_STATES);
     if (stream < 0)
         return false;
-    uint8_t kind = events[dice_below(&generator->dice, EVENTS)].kind;
+    uint8_t kind = events[dice_below(&generator->dice, LENGTH_OF(events))].kind;
     put_event(generator, record, kind, (unsigned)stream);
     if (kind == 'W' && dice_one_in(&generator->dice, 2))
         put32(record->bytes + AT_WITHDRAWN_NUMBER, pick_foreign_number(generator, (unsigned)stream));

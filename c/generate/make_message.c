@@ -1,10 +1,9 @@
 /* Messages with a code that is not served, and messages of an awkward length or padding. */
 #include "make.h"
 
+#include "array.h"
 #include "message.h"
 #include "pick.h"
-
-#define LENGTH_OF(array) (sizeof(array) / sizeof((array)[0]))
 
 static bool make_with_code(struct generator *generator, uint32_t code, struct record *record)
 {
@@ -39,19 +38,27 @@ bool make_other_code(struct generator *generator, uint32_t subject, struct recor
     return make_with_code(generator, code, record);
 }
 
-/* A length from 0 to 97, or any over that, and any bytes up to it behind a small code. */
+/* Each length from 0 to 97, those next to a bound more often, and any over that. */
+static unsigned pick_length(struct generator *generator)
+{
+    static const uint8_t bounds[] = { 0, 1, 2, 3, 4, BLOCK_SIZE - 1, BLOCK_SIZE, BLOCK_SIZE + 1, 255 };
+    if (dice_one_in(&generator->dice, 4))
+        return bounds[dice_below(&generator->dice, sizeof bounds)];
+    if (dice_one_in(&generator->dice, 8))
+        return BLOCK_SIZE + 1 + dice_below(&generator->dice, 255 - BLOCK_SIZE);
+    return dice_below(&generator->dice, BLOCK_SIZE + 1);
+}
+
+/* A message of any length, with any bytes up to it behind a small code. */
 bool make_any_length(struct generator *generator, uint32_t subject, struct record *record)
 {
     (void)subject;
     int stream = pick_stream(generator, ALL_STATES);
     if (stream < 0)
         return false;
-    unsigned length = dice_below(&generator->dice, BLOCK_SIZE + 2);
-    if (dice_one_in(&generator->dice, 8))
-        length = BLOCK_SIZE + 1 + dice_below(&generator->dice, 255 - BLOCK_SIZE);
     message_start(generator, record, (unsigned)stream, dice_below(&generator->dice, 0x22));
     pick_bytes(generator, record->bytes + AT_BLOCK + CODE_SIZE, BLOCK_SIZE - CODE_SIZE);
-    message_cut(record, length);
+    message_cut(record, pick_length(generator));
     return true;
 }
 

@@ -6,15 +6,23 @@
 #include "image.h"
 #include "pick.h"
 
-/* The next small number most often, now and then one already there. */
+/* The next small number most often, now and then 0, one already there or any other. */
 static uint32_t number_to_add(struct generator *generator)
 {
     int place = pick_ppa(generator);
-    if (place >= 0 && dice_one_in(&generator->dice, 8))
-        return image_ppa_number(generator->table, (unsigned)place);
-    if (dice_one_in(&generator->dice, 4))
+    switch (dice_below(&generator->dice, 16)) {
+    case 0:
+        return 0;
+    case 1:
+    case 2:
+        return place < 0 ? 1 : image_ppa_number(generator->table, (unsigned)place);
+    case 3:
+    case 4:
+    case 5:
         return pick_unknown_ppa(generator);
-    return image_ppas(generator->table) + 1;
+    default:
+        return image_ppas(generator->table) + 1;
+    }
 }
 
 /* MACs may be equal, so now and then it is that of another PPA. */

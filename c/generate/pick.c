@@ -1,8 +1,7 @@
 #include "pick.h"
 
+#include "array.h"
 #include "image.h"
-
-#define LENGTH_OF(array) (sizeof(array) / sizeof((array)[0]))
 
 int pick_stream_where(struct generator *generator, stream_test *test, unsigned argument)
 {

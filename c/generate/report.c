@@ -4,7 +4,7 @@
 #include <stdbool.h>
 #include <stdio.h>
 
-#define LENGTH_OF(array) (sizeof(array) / sizeof((array)[0]))
+#include "array.h"
 
 struct report {
     unsigned cells;
@@ -147,6 +147,19 @@ static void print_refusals_by_test(struct report *report, const struct tally *ta
     printf("\n");
 }
 
+static void print_lost(struct report *report, const struct tally *tally)
+{
+    static const char kinds[] = "XPCADWRS";
+    printf("Refusal 2 by kind, stream not open and stream over 15\n");
+    for (const char *kind = kinds; *kind != '\0'; kind++) {
+        printf("  %c ", *kind);
+        print_cell(report, tally->for_closed[(uint8_t)*kind], true);
+        print_cell(report, tally->for_over_15[(uint8_t)*kind], true);
+        printf("\n");
+    }
+    printf("\n");
+}
+
 static void print_errors(struct report *report, const struct tally *tally)
 {
     printf("Errors by step and test, in the order of errors\n");
@@ -154,7 +167,7 @@ static void print_errors(struct report *report, const struct tally *tally)
         const struct fault_info *info = &fault_infos[fault];
         if (info->refusal != 0)
             continue;
-        printf("  step %u  %-12s  %-40s", info->step, info->error_name, info->test);
+        printf("  step %u  0x%02x %-12s  %-40s", info->step, info->error, info->error_name, info->test);
         print_cell(report, tally->faults[fault], true);
         printf("\n");
     }
@@ -167,13 +180,12 @@ static void print_errors(struct report *report, const struct tally *tally)
     (FAULT(BIND_SAP_ODD) | FAULT(BIND_SAP_RESERVED) | FAULT(BIND_SAP_GAP) | FAULT(BIND_SAP_OVER))
 #define DESTINATION_FAULTS \
     (FAULT(CONNECT_LENGTH) | FAULT(CONNECT_OFFSET) | FAULT(CONNECT_END) | FAULT(CONNECT_END_WRAPS) | FAULT(CONNECT_SAP))
-#define TOKEN_FAULTS \
-    (FAULT(ACCEPT_PENDING_ZERO) | FAULT(ACCEPT_PENDING_OWN) | OTHER_TOKEN_FAULTS)
 #define OTHER_TOKEN_FAULTS \
     (FAULT(ACCEPT_TOKEN_OVER) | FAULT(ACCEPT_TOKEN_CLOSED) | FAULT(ACCEPT_CARRIER_STATE) | \
      FAULT(ACCEPT_CARRIER_PPA) | FAULT(ACCEPT_CARRIER_MODE))
+#define TOKEN_FAULTS (FAULT(ACCEPT_PENDING_ZERO) | FAULT(ACCEPT_PENDING_OWN) | OTHER_TOKEN_FAULTS)
 
-/* The later faults that can stand beside an earlier one in the same record and would be answered otherwise. */
+/* The later faults that can stand beside an earlier one in the same record and are told apart from it. */
 struct order {
     enum fault earlier;
     fault_set later;
@@ -235,7 +247,7 @@ static void print_orders(struct report *report, const struct tally *tally)
     printf("\n");
 }
 
-/* --- Ways and lengths */
+/* --- Ways, codes and lengths */
 
 static void print_ways(struct report *report, const struct tally *tally)
 {
@@ -248,20 +260,38 @@ static void print_ways(struct report *report, const struct tally *tally)
     printf("\n");
 }
 
+/* Counts by number from 0 on: lines of eight behind the number of the first, which is hexadecimal. */
+static void print_grid(struct report *report, const uint64_t *counts, unsigned size)
+{
+    for (unsigned i = 0; i < size; i++) {
+        if (i % 8 == 0)
+            printf("%s  0x%02x        ", i == 0 ? "" : "\n", i);
+        print_cell(report, counts[i], true);
+    }
+    printf("\n");
+}
+
+static void print_codes(struct report *report, const struct tally *tally)
+{
+    printf("Messages by code, lines of eight\n");
+    print_grid(report, tally->codes, CODES);
+    printf("  %-12s", "greater");
+    print_cell(report, tally->greater_codes, true);
+    printf("\n\n");
+}
+
 static void print_lengths(struct report *report, const struct tally *tally)
 {
-    enum { EACH = BLOCK_SIZE + 2, ACROSS = 10 };
+    enum { EACH = BLOCK_SIZE + 2 };
     uint64_t longer = 0;
-    printf("Messages for an open stream by L, ten in a line");
-    for (unsigned length = 0; length < EACH; length++) {
-        if (length % ACROSS == 0)
-            printf("\n  %2u", length);
-        print_cell(report, tally->lengths[length], true);
-    }
-    for (unsigned length = EACH; length < LENGTHS; length++)
+    for (unsigned length = EACH; length < LENGTHS - 1; length++)
         longer += tally->lengths[length];
-    printf("\n  over %u", EACH - 1);
+    printf("Messages for an open stream by L, lines of eight\n");
+    print_grid(report, tally->lengths, EACH);
+    printf("  0x%02x to 0x%02x", EACH, LENGTHS - 2);
     print_cell(report, longer, true);
+    printf("\n  0x%02x        ", LENGTHS - 1);
+    print_cell(report, tally->lengths[LENGTHS - 1], true);
     printf("\n\n");
 }
 
@@ -273,9 +303,11 @@ unsigned report_print(const struct tally *tally)
     print_table(&report, "Events by state, served/refused", event_rows, tally->events, EVENT_ROWS);
     print_refusals(&report, tally);
     print_refusals_by_test(&report, tally);
+    print_lost(&report, tally);
     print_errors(&report, tally);
     print_orders(&report, tally);
     print_ways(&report, tally);
+    print_codes(&report, tally);
     print_lengths(&report, tally);
     printf("coverage: %u cells, %u empty\n", report.cells, report.empty);
     return report.empty + report.undue;

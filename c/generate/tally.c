@@ -61,13 +61,23 @@ static void count_request(struct tally *tally, const struct call *call, enum fau
         count_carrier(tally, call, fault);
 }
 
+static void count_code(struct tally *tally, uint32_t code)
+{
+    if (code < CODES)
+        tally->codes[code]++;
+    else
+        tally->greater_codes++;
+}
+
 static void count_message(struct tally *tally, const struct call *call, enum fault fault)
 {
     bool refused = fault != FAULTS && fault_infos[fault].refusal != 0;
     if (!refused || fault == LENGTH_OVER || fault == LENGTH_UNDER)
         tally->lengths[call->bytes[AT_LENGTH]]++;
-    if (!refused)
-        count_request(tally, call, fault);
+    if (refused)
+        return;
+    count_code(tally, call_field(call, AT_CODE));
+    count_request(tally, call, fault);
 }
 
 /* --- Events */
@@ -83,11 +93,10 @@ static void count_incoming_call(struct tally *tally, const struct call *call, en
 
 static void count_event(struct tally *tally, const struct call *call, unsigned row, enum fault fault)
 {
-    if (fault == STREAM_OVER || fault == STREAM_CLOSED)
-        return;
     count_by_state(&tally->events[row], call_state(call), fault == FAULTS);
 }
 
+/* The record is whole, and a stream that it names is open. */
 static void count_record(struct tally *tally, const struct call *call, enum fault fault)
 {
     switch (call->bytes[AT_KIND]) {
@@ -121,6 +130,27 @@ static void count_record(struct tally *tally, const struct call *call, enum faul
     }
 }
 
+/* --- Records of every kind */
+
+static void count_call(struct tally *tally, const struct call *call, enum fault fault)
+{
+    uint8_t kind = call->bytes[AT_KIND];
+    switch (fault) {
+    case KIND_UNKNOWN:
+    case BODY_CUT:
+        break;
+    case STREAM_OVER:
+        tally->for_over_15[kind]++;
+        break;
+    case STREAM_CLOSED:
+        tally->for_closed[kind]++;
+        break;
+    default:
+        count_record(tally, call, fault);
+        break;
+    }
+}
+
 /* --- Faults and ways */
 
 static void count_faults(struct tally *tally, fault_set faults)
@@ -148,6 +178,5 @@ void tally_call(struct tally *tally, const struct call *call, fault_set faults)
         count_ways(tally, ways_of_call(call));
     else
         count_faults(tally, faults);
-    if (fault != KIND_UNKNOWN && fault != BODY_CUT)
-        count_record(tally, call, fault);
+    count_call(tally, call, fault);
 }

@@ -40,7 +40,9 @@ enum {
 
 enum {
     REFUSALS = 17, /* one past the highest number */
-    LENGTHS = 256
+    LENGTHS = 256,
+    CODES = 0x22, /* up to 0x21, the first behind those that the paper names */
+    KINDS = 256
 };
 
 struct by_state {
@@ -52,10 +54,14 @@ struct tally {
     struct by_state requests[REQUEST_ROWS];
     struct by_state events[EVENT_ROWS];
     uint64_t refusals[REFUSALS];
-    uint64_t faults[FAULTS];         /* how often it decided */
-    uint64_t pairs[FAULTS][FAULTS];  /* how often the first decided and the second applied, too */
+    uint64_t faults[FAULTS];        /* how often it decided */
+    uint64_t pairs[FAULTS][FAULTS]; /* how often the first decided and the second applied, too */
     uint64_t ways[WAYS];
-    uint64_t lengths[LENGTHS];       /* messages for an open stream, by L */
+    uint64_t lengths[LENGTHS]; /* messages for an open stream, by L */
+    uint64_t codes[CODES];     /* those of L from 4 to 96, by code */
+    uint64_t greater_codes;
+    uint64_t for_closed[KINDS]; /* records for a stream that is not open, by kind */
+    uint64_t for_over_15[KINDS];
 };
 
 void tally_call(struct tally *tally, const struct call *call, fault_set faults);

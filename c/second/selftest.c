@@ -499,8 +499,19 @@ static void test_measured_counts(struct bench *b)
     put_open(b->want, 0, "06 01 0080 00000001 08");
     same_table(b, "max_conind 9 grants 8");
 
-    stand(b, 0, "09 01 0080 00000001 08 08 00000001 00000002 00000003 00000004"
-                " 00000005 00000006 00000007 00000008");
+    for (unsigned number = 0x11; number <= 0x18; number++) {
+        char out[LONGEST_TEXT];
+
+        snprintf(out, sizeof out,
+                 "P 0 0000000e %08x 00000007 00000024 00000007 0000002b"
+                 " 00000000 00000000 00000000 02000000000180 02000000000284",
+                 number);
+        serve(b, "I 00000001 02000000000180 02000000000284", out);
+    }
+    put_open(b->want, 0, "09 01 0080 00000001 08 08 00000011 00000012 00000013"
+                         " 00000014 00000015 00000016 00000017 00000018");
+    put_number(b->want + COUNTER, 0x19);
+    same_table(b, "8 open");
     refuse(b, "I 00000001 02000000000180 02000000000284", 8);
 
     stand(b, 0, "09 01 0080 00000001 02 02 00000001 00000002");
@@ -656,28 +667,34 @@ static void test_replay_ends(struct bench *b)
             "nonzero padding, L 97, a cut X");
 }
 
-/* Longer than any buffer for reading is likely to be. */
+/*
+ * Longer than a buffer for reading may be, and with every shift of the records
+ * against it: some O's of 1 byte, then messages of 99 bytes.
+ */
 static void test_replay_long(struct bench *b)
 {
-    enum { PAIRS = 100001 };
-    uint8_t *input = malloc(3 * PAIRS);
-    char *wanted = malloc(64 + 32 * PAIRS);
-    char *end = wanted;
+    enum { SHIFTS = 99, MESSAGES = 700 };
+    static uint8_t input[SHIFTS + 99 * MESSAGES];
+    static char wanted[64 + 64 * (SHIFTS + MESSAGES)];
 
-    if (input == NULL || wanted == NULL) {
-        perror("selftest");
-        exit(1);
-    }
     b->topic = "replay of a long input";
-    end += sprintf(end, "dlpi replay\n");
-    for (unsigned i = 0; i < PAIRS; i++) {
-        memcpy(input + 3 * i, "OX\0", 3);
-        end += sprintf(end, "%u open 0\n%u ok\n", 2 * i + 1, 2 * i + 2);
+    for (unsigned shift = 1; shift <= SHIFTS; shift++) {
+        char *end = wanted;
+        unsigned n = 0;
+
+        memset(input, 'O', shift);
+        end += sprintf(end, "dlpi replay\n");
+        while (n++ < shift)
+            end += n <= 16 ? sprintf(end, "%u open %u\n", n, n - 1)
+                           : sprintf(end, "%u refused 3\n", n);
+        for (unsigned i = 0; i < MESSAGES; i++, n++) {
+            message(input + shift + 99 * i, 0, 4, "00000011");
+            end += sprintf(end, "%u C 0 0000001200000001\n", n);
+        }
+        sprintf(end, "%u records, %u refused\n", shift + MESSAGES,
+                shift > 16 ? shift - 16 : 0);
+        replays(b, input, shift + 99 * MESSAGES, wanted, "O's and messages");
     }
-    sprintf(end, "%u records, 0 refused\n", 2 * PAIRS);
-    replays(b, input, 3 * PAIRS, wanted, "O and X over and over");
-    free(input);
-    free(wanted);
 }
 
 /* ---- refusals ---- */
@@ -984,7 +1001,6 @@ static void test_damaged_bytes(struct bench *b)
         { "PPA place behind the count", PPA_COUNT, "01" },
         { "unused place for a PPA, number", PPA_PLACES + 20, "01" },
         { "unused place for a PPA, MAC", PPA_PLACES + 79, "01" },
-        { "PPA numbers equal", PPA_PLACES + 10, "00000001" },
         { "attached PPA missing", PPA_PLACES, "00000003" },
         { "mask closes a stream that holds calls", MASK, "ff81" },
         { "mask closes a stream that is attached", MASK, "ff82" },
@@ -1029,6 +1045,7 @@ static void test_damaged_bytes(struct bench *b)
         { "unused place of a closed stream", IN_SLOT(15, 41), "01" },
         { "open number 0", IN_SLOT(0, 10), "00000000" },
         { "last open number 0", IN_SLOT(0, 14), "00000000" },
+        { "open number 0 of a later stream", IN_SLOT(5, 10), "00000000" },
         { "number twice on a stream", IN_SLOT(0, 14), "00000007" },
         { "number twice on two streams", IN_SLOT(5, 10), "00000008" },
         { "two listen for one PPA and SAP", IN_SLOT(6, 2), "00800000000101" },
@@ -1047,6 +1064,34 @@ static void test_damaged_bytes(struct bench *b)
         start_full(b);
         hex(damages[i].bytes, table_of(b) + damages[i].offset);
         not_lent_soundly(b, damages[i].what);
+    }
+}
+
+static void test_damaged_heads(struct bench *b)
+{
+    b->topic = "refusal 16, PPAs and openings";
+    for (unsigned place = 0; place < 8; place++) {
+        start(b);
+        for (unsigned i = 2; i < 8; i++)
+            put_ppa(table_of(b), i, "00000000 020000000009");
+        for (unsigned i = 0; i < 8; i++)
+            put_number(table_of(b) + PPA_PLACES + PPA_PLACE * i, i + 1);
+        lent_soundly(b, "eight PPAs");
+        for (unsigned i = 0; i < 8; i++) {
+            put_number(table_of(b) + PPA_PLACES + PPA_PLACE * place, i + 1);
+            if (i != place)
+                not_lent_soundly(b, "two PPA numbers equal");
+        }
+    }
+    start(b);
+    table_of(b)[OPENED] = 2;
+    not_lent_soundly(b, "opening byte 2 and no stream open");
+    for (unsigned s = 0; s < 16; s++) {
+        start(b);
+        stand(b, s, "00");
+        lent_soundly(b, "a stream open");
+        table_of(b)[OPENED] = 0;
+        not_lent_soundly(b, "its opening not remembered");
     }
 }
 
@@ -1398,9 +1443,9 @@ static void test_errors_of_connect(struct bench *b)
     error(b, "P 2 0000000d 01000007 00000018 00000000 00000000 00000000"
              " 02000000000984", BADADDR);
     error(b, "P 2 0000000d 00000007 00000017 00000000 00000000 00000000"
-             " 02000000000984", BADADDR);
+             " 02000000000884", BADADDR);
     error(b, "P 2 0000000d 00000007 00000000 00000000 00000000 00000000"
-             " 02000000000984", BADADDR);
+             " 02000000000884", BADADDR);
     error(b, "P 2 0000000d 00000007 00000018 00000000 00000000 00000000"
              " 020000000009", BADADDR);
     error(b, "P 2 0000000d 00000007 00000018 00000000 00000000 00000000",
@@ -1575,7 +1620,8 @@ static const struct row *find_row(const struct row *rows, size_t count,
 #define BIND_MESSAGE "P 2 00000001 00000080 00000002 0001 0000 00000000"
 #define UNBIND_MESSAGE "P 2 00000002"
 #define CONNECT_MESSAGE "P 2 0000000d " CONNECT_FIELDS " 02000000000984"
-#define ACCEPT_MESSAGE "P 2 0000000f 00000005 00000000 00000000 00000000 00000000"
+#define ACCEPT_MESSAGE \
+    "P 2 0000000f 00000005 00000000 00000000 00000000 00000000"
 #define DISCONNECT_MESSAGE "P 2 00000013 00000021 00000000"
 #define DENY_MESSAGE "P 2 00000013 00000021 00000005"
 #define RESET_MESSAGE "P 2 00000017"
@@ -1789,6 +1835,16 @@ static void test_withdrawals(struct bench *b)
           "P 2 00000014 00000701 00000001 00000006");
     put_open(b->want, 2, "06 01 0080 00000001 08");
     same_table(b, "the last");
+
+    start(b);
+    stand(b, 2, "09 01 0080 00000001 08 08 00000001 00000002 00000003 00000004"
+                " 00000005 00000006 00000007 00000008");
+    stand(b, 3, "0b 01 0080 00000001 00");
+    serve(b, "W 2 00000001 00000000",
+          "P 2 00000014 00000701 00000000 00000001");
+    put_open(b->want, 2, "09 01 0080 00000001 08 07 00000002 00000003 00000004"
+                         " 00000005 00000006 00000007 00000008");
+    same_table(b, "the oldest of eight");
 }
 
 static void test_close(struct bench *b)
@@ -1939,6 +1995,7 @@ int main(void)
         test_order_of_refusals,
         test_length_of_image,
         test_damaged_bytes,
+        test_damaged_heads,
         test_states_of_slots,
         test_slots_above_6,
         test_sound_tables,

@@ -1,0 +1,42 @@
+/* The requests that are served: for each a way to fill it rightly, and ways to spoil it that the paper's order of
+ * errors tells apart. */
+#ifndef GENERATE_REQUEST_H
+#define GENERATE_REQUEST_H
+
+#include "array.h"
+#include "pick.h"
+
+/* Changes a message for the stream, whose fixed fields are within its L once it is filled. */
+typedef void change(struct generator *generator, unsigned stream, struct record *record);
+
+struct request {
+    uint32_t code;
+    unsigned size;
+    unsigned states;  /* those with a row */
+    stream_test *apt; /* whether a stream in such a state can be served, or NULL if each can */
+    change *fill;
+    change *const *spoilers;
+    unsigned spoiler_count;
+};
+
+#define SPOILERS(array) .spoilers = array, .spoiler_count = LENGTH_OF(array)
+
+/* request_plain.c: those with one field at most. */
+extern const struct request request_info;
+extern const struct request request_token;
+extern const struct request request_attach;
+extern const struct request request_detach;
+extern const struct request request_unbind;
+extern const struct request request_reset;
+extern const struct request request_reset_answer;
+
+/* Each in a file of its own. */
+extern const struct request request_bind;
+extern const struct request request_connect;
+extern const struct request request_accept;
+extern const struct request request_disconnect;
+
+/* A QOS length that is not 0; CONNECT_REQ and CONNECT_RES have it at the same place. */
+change request_spoil_qos;
+
+#endif
