@@ -521,7 +521,7 @@ static void test_measured_counts(struct bench *b)
           PENDING);
 }
 
-/* The slips that the paper has seen. */
+/* The slips that the paper names. */
 static void test_slips(struct bench *b)
 {
     b->topic = "slips";
@@ -1147,8 +1147,8 @@ static void test_sound_tables(struct bench *b)
         "06 02 0600 00000001", "06 02 ffff 00000001", "06 02 0000 00000002",
         "06 01 0080 00000001 00", "0b 01 0080 00000002 00",
         "06 02 0080 00000001 00", "06 01 0084 00000002 08",
-        "09 01 00aa 00000001 08 08 00000001 00000002 00000003 00000004"
-        " 00000005 00000006 00000064 ffffffff",
+        ("09 01 00aa 00000001 08 08 00000001 00000002 00000003 00000004"
+         " 00000005 00000006 00000064 ffffffff"),
     };
 
     b->topic = "sound tables";

@@ -3,7 +3,7 @@ use Prim.Native.Nat.{ℕ, zero, suc, _+_, _-_, _*_, _/_, _%_, _^_}
 use mathlib.Core.Bool.{Bool, not}
 use mathlib.Core.List.{List, [], _∷_, _++_}
 use lib.ListN.{length, getD, replicate}
-use lib.Dec.{eqb, leb}
+use lib.Dec.{eqb, ltb, leb}
 use Rattle.ledger.specs.Choice.{both, _⇒_∣_}
 use Rattle.ledger.specs.Tally.{oneIf, has, allOf}
 use Rattle.octets.specs.Numbers.{be16At, be32At, be16, be32}
@@ -137,9 +137,14 @@ slotParts img = listed (λ i. part img (slotBase i) 42) 0 16
 abbrev pub tidyPpas : List ℕ → Bool
 tidyPpas img = both (leb (getD img 3 0) 8) (allZero (part img (ppaBase (getD img 3 0)) (80 - getD img 3 0 * 10)))
 
+-- bytes, as what C lends always are: a list may hold any numbers
+abbrev pub areBytes : List ℕ → Bool
+areBytes l = allOf (λ (n : ℕ). ltb n 256) l
+
 unfoldable pub tidy : List ℕ → Bool
 tidy img =
-    both (eqb (length img) imageSize) (both (leb (getD img 2 0) 1) (both (tidyPpas img) (allOf tidySlot (slotParts img))))
+    both (eqb (length img) imageSize)
+    (both (areBytes img) (both (leb (getD img 2 0) 1) (both (tidyPpas img) (allOf tidySlot (slotParts img)))))
 
 -- A table is lent soundly if its image is tidy and the table is sound. Any other image is refusal 16.
 unfoldable pub soundImage : List ℕ → Bool
