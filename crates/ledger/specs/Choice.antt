@@ -2,7 +2,6 @@
 use mathlib.Core.Bool.{Bool, true, false}
 
 infixr 5 _⇒_∣_
-
 -- the first where the test holds, else the second
 abbrev pub pick {ℓ} : {A : Type ℓ} → Bool → A → A → A
 pick true a b = a

@@ -4,7 +4,7 @@ use mathlib.Core.Bool.{true}
 use Rattle.ledger.specs.Choice.{_⇒_∣_}
 use Rattle.paper.specs.Base.{lowestFree, knows, macOf, withSlot, withCalls, withStream, withCounter, withPpa, remembering}
 use Rattle.paper.specs.Correlations.{occurrences, nextNumber}
-use Rattle.paper.specs.Errors.{judgeAttach, judgeListening, judgeBind, judgeConnect, carrierOf, judgeOther, judgeCarrier, judgeAccept, judgeDenial, judgeDisconnect, isWaiting, judgeServed, judge}
+use Rattle.paper.specs.ErrorOrder.{judgeAttach, judgeListening, judgeBind, judgeConnect, carrierOf, judgeOther, judgeCarrier, judgeAccept, judgeDenial, judgeDisconnect, isWaiting, judgeServed, judge}
 use Rattle.paper.specs.Events.{eventRow, peerAccepted, peerGone, callWithdrawn, peerReset, resetConfirmed, ringing, rings, hears, heardBy, callArrives}
 use Rattle.paper.specs.Messages.{otherCode, primitiveOf, sized, askedBy}
 use Rattle.paper.specs.Openings.{addsPpa, opens, goodbyes, closes}

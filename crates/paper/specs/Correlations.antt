@@ -1,6 +1,5 @@
 -- 'Correlation numbers': one counter for the table, from 1 (`fresh`).
 use Prim.Native.Nat.{ℕ, _+_, _%_, _^_}
-use mathlib.Core.List.{List}
 use Rattle.ledger.specs.Tally.{occ, sumOf, nextFrom}
 use Rattle.paper.specs.Base.{Slot, Table}
 

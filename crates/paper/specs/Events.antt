@@ -11,7 +11,7 @@ use Rattle.paper.specs.Base.{number, isIn, inState, Slot, Table, slot, s
 use Rattle.paper.specs.RecordsOut.{Record, up, flushIf, inOrder}
 use Rattle.paper.specs.Refusals.{unexpected, nobodyThere, busy, Outcome, refused, served}
 use Rattle.paper.specs.Saps.{listener, isListenedFor}
-use Rattle.paper.specs.Errors.{isWaiting}
+use Rattle.paper.specs.ErrorOrder.{isWaiting}
 use Rattle.paper.specs.Rows.{losing, moved}
 use Rattle.paper.specs.Correlations.{nextNumber, onePast}
 use Rattle.paper.specs.declared.State.{State}

@@ -1,19 +1,19 @@
 -- 'Measured examples': the cases marked *, as one list. Each is a fresh table, the calls that lead up to the case, the
 -- call itself with the room lent to it, and what it must come to.
 use Prim.Native.Nat.{ℕ, _+_, _^_, _-_}
-use mathlib.Core.Bool.{Bool, true, not}
+use mathlib.Core.Bool.{Bool, not}
 use mathlib.Core.List.{List, [], _∷_, _++_}
 use lib.ListN.{length, getD}
 use lib.Dec.{eqb}
 use Rattle.ledger.specs.Choice.{both}
 use Rattle.ledger.specs.Tally.{allOf}
-use Rattle.octets.specs.Numbers.{be32At, be32, be16}
+use Rattle.octets.specs.Numbers.{be32At, be32}
 use Rattle.octets.specs.Runs.{sameBytes}
 use Rattle.octets.specs.Blocks.{flat, pad}
 use Rattle.paper.specs.Base.{Table, fresh}
 use Rattle.paper.specs.RecordsOut.{allBytes}
 use Rattle.paper.specs.Refusals.{Outcome}
-use Rattle.paper.specs.Errors.{badAddr, badPrim, pending}
+use Rattle.paper.specs.ErrorCodes.{badAddr, badPrim, pending}
 use Rattle.paper.specs.Step.{step}
 
 -- ---- records in

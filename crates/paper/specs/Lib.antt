@@ -7,7 +7,8 @@ pub mod Sound
 pub mod Openings
 pub mod Messages
 pub mod Replies
-pub mod Errors
+pub mod ErrorCodes
+pub mod ErrorOrder
 pub mod Saps
 pub mod Rows
 pub mod Events

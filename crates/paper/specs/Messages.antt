@@ -1,6 +1,5 @@
 -- 'Messages', the ones from a user: codes, fields and sizes. L may exceed the fixed size.
 use Prim.Native.Nat.{ℕ, _+_}
-use mathlib.Core.Bool.{Bool}
 use mathlib.Core.List.{List, [], _∷_}
 use lib.ListN.{length, getD}
 use lib.Dec.{eqb, ltb}

@@ -1,10 +1,9 @@
 -- Adding a PPA, opening and closing: refusals 9 and 3, and what a close tells the line.
 use Prim.Native.Nat.{ℕ}
-use mathlib.Core.Bool.{Bool}
 use mathlib.Core.List.{List, [], _∷_, map}
 use lib.ListN.{length}
 use lib.Dec.{ltb, leb}
-use Rattle.ledger.specs.Choice.{either, _⇒_∣_}
+use Rattle.ledger.specs.Choice.{_⇒_∣_}
 use Rattle.ledger.specs.Tally.{has}
 use Rattle.paper.specs.Base.{number, isIn, Slot, closed, justOpened, Table, slot, lowestFree, knows, withSlot, withPpa, remembering}
 use Rattle.paper.specs.RecordsOut.{Record, order}

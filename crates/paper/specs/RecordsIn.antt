@@ -15,17 +15,17 @@ use Rattle.paper.specs.declared.Input.the-variants as input
 -- The letters.
 unfoldable pub kindOf : ℕ → Kind
 kindOf b =
-    eqb b 71 ⇒ kind.AddPpa -- G
-    ∣ eqb b 79 ⇒ kind.Open -- O
-    ∣ eqb b 88 ⇒ kind.Close -- X
-    ∣ eqb b 80 ⇒ kind.Message -- P, and C: from a user they are treated alike
+    eqb b 71 ⇒ kind.AddPpa  -- G
+    ∣ eqb b 79 ⇒ kind.Open  -- O
+    ∣ eqb b 88 ⇒ kind.Close  -- X
+    ∣ eqb b 80 ⇒ kind.Message  -- P, and C: from a user they are treated alike
     ∣ eqb b 67 ⇒ kind.Message
-    ∣ eqb b 73 ⇒ kind.CallArrives -- I
-    ∣ eqb b 65 ⇒ kind.PeerAccepted -- A
-    ∣ eqb b 68 ⇒ kind.PeerGone -- D
-    ∣ eqb b 87 ⇒ kind.CallWithdrawn -- W
-    ∣ eqb b 82 ⇒ kind.PeerReset -- R
-    ∣ eqb b 83 ⇒ kind.ResetConfirmed -- S
+    ∣ eqb b 73 ⇒ kind.CallArrives  -- I
+    ∣ eqb b 65 ⇒ kind.PeerAccepted  -- A
+    ∣ eqb b 68 ⇒ kind.PeerGone  -- D
+    ∣ eqb b 87 ⇒ kind.CallWithdrawn  -- W
+    ∣ eqb b 82 ⇒ kind.PeerReset  -- R
+    ∣ eqb b 83 ⇒ kind.ResetConfirmed  -- S
     ∣ kind.Unknown
 
 -- The kind's byte and the body. An unknown kind has no size.

@@ -19,11 +19,11 @@ pub data Record : Type 0 where
   up : ℕ → Reply → List ℕ → Record
 
 abbrev pub orderBytes : LineOrder → List ℕ
-orderBytes (lineOrder.Connect s) = 99 ∷ s ∷ [] -- c: stream; the called address follows
-orderBytes (lineOrder.Accept s n) = (97 ∷ s ∷ []) ++ be32 (n .0) -- a: carrying stream, correlation
-orderBytes (lineOrder.Disconnect s n reason) = (100 ∷ s ∷ []) ++ be32 (n .0) ++ be32 reason -- d: stream, correlation, reason
-orderBytes (lineOrder.Reset s) = 114 ∷ s ∷ [] -- r: stream
-orderBytes (lineOrder.ResetAnswer s) = 115 ∷ s ∷ [] -- s: stream
+orderBytes (lineOrder.Connect s) = 99 ∷ s ∷ []  -- c: stream; the called address follows
+orderBytes (lineOrder.Accept s n) = (97 ∷ s ∷ []) ++ be32 (n .0)  -- a: carrying stream, correlation
+orderBytes (lineOrder.Disconnect s n reason) = (100 ∷ s ∷ []) ++ be32 (n .0) ++ be32 reason  -- d: stream, correlation, reason
+orderBytes (lineOrder.Reset s) = 114 ∷ s ∷ []  -- r: stream
+orderBytes (lineOrder.ResetAnswer s) = 115 ∷ s ∷ []  -- s: stream
 
 -- P or C: stream, length L, the block of 96 bytes, zero past L.
 abbrev pub messageBytes : Bool → ℕ → List ℕ → List ℕ
@@ -31,7 +31,7 @@ messageBytes asC s content = (pick asC 67 80 ∷ s ∷ length content ∷ []) ++
 
 abbrev pub bytesOf : Record → List ℕ
 bytesOf (order o called) = orderBytes o ++ called
-bytesOf (flush s) = 70 ∷ s ∷ [] -- F: stream
+bytesOf (flush s) = 70 ∷ s ∷ []  -- F: stream
 bytesOf (up s reply tail) = messageBytes (goesAsC reply) s (contentOf reply tail)
 
 -- Each record is written right behind the one before it.

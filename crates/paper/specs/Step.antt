@@ -10,7 +10,8 @@ use Rattle.paper.specs.RecordsOut.{up}
 use Rattle.paper.specs.Refusals.{littleRoom, notOpen, noCode, overLong, notARecord, notSound, Outcome, refused, served}
 use Rattle.paper.specs.Sound.{sound}
 use Rattle.paper.specs.Messages.{codeIn, askedBy}
-use Rattle.paper.specs.Errors.{errorOf, verdictOn}
+use Rattle.paper.specs.ErrorCodes.{errorOf}
+use Rattle.paper.specs.ErrorOrder.{verdictOn}
 use Rattle.paper.specs.Rows.{performed}
 use Rattle.paper.specs.Events.{callArrives, peerAccepted, peerGone, callWithdrawn, peerReset, resetConfirmed}
 use Rattle.paper.specs.Openings.{addsPpa, opens, closes}

@@ -1,12 +1,11 @@
--- 'Answers with ERROR_ACK': the codes, and the order in which the rules are tested. First that applies.
+-- 'Answers with ERROR_ACK': the order in which the rules are tested. First that applies.
 use Prim.Native.Nat.{ℕ, suc, _+_, _-_, _%_}
 use mathlib.Core.Bool.{Bool, not}
-use mathlib.Core.List.{List}
 use lib.ListN.{length}
 use lib.Dec.{eqb, ltb}
 use Rattle.ledger.specs.Choice.{both, either, _⇒_∣_}
 use Rattle.ledger.specs.Tally.{has}
-use Rattle.paper.specs.Base.{number, isIn, Table, slot, stream, waiting, knows}
+use Rattle.paper.specs.Base.{isIn, Table, slot, stream, waiting, knows}
 use Rattle.paper.specs.Saps.{isSap, isType, grantOf, isListenedFor}
 use Rattle.paper.specs.Rows.{hasRow}
 use Rattle.paper.specs.declared.Correlation.{Correlation}
@@ -19,114 +18,16 @@ use Rattle.paper.specs.declared.ConnectResponse.{ConnectResponse}
 use Rattle.paper.specs.declared.DisconnectRequest.{DisconnectRequest}
 use Rattle.paper.specs.declared.Request.{Request}
 use Rattle.paper.specs.declared.Request.the-variants as request
-use Rattle.paper.specs.declared.Rule.{Rule}
 use Rattle.paper.specs.declared.Rule.the-variants as rule
 use Rattle.paper.specs.declared.Carrier.{Carrier}
 use Rattle.paper.specs.declared.Carrier.the-variants.{Itself, Other, None}
-use Rattle.paper.specs.declared.Row.{Row}
 use Rattle.paper.specs.declared.Row.the-variants as row
 use Rattle.paper.specs.declared.Asked.{Asked}
 use Rattle.paper.specs.declared.Asked.the-variants.{For, Wrong}
 use Rattle.paper.specs.declared.Verdict.{Verdict}
 use Rattle.paper.specs.declared.Verdict.the-variants.{Serves, Fails}
 
--- The codes.
-abbrev pub badAddr : ℕ
-badAddr = 1
-
-abbrev pub access : ℕ
-access = 2
-
-abbrev pub outState : ℕ
-outState = 3
-
-abbrev pub badCorr : ℕ
-badCorr = 5
-
-abbrev pub unsupported : ℕ
-unsupported = 7
-
-abbrev pub badPpa : ℕ
-badPpa = 8
-
-abbrev pub badPrim : ℕ
-badPrim = 9
-
-abbrev pub badQosType : ℕ
-badQosType = 0x0b
-
-abbrev pub badToken : ℕ
-badToken = 0x0c
-
-abbrev pub bound : ℕ
-bound = 0x0d
-
-abbrev pub notSupported : ℕ
-notSupported = 0x12
-
-abbrev pub noAuto : ℕ
-noAuto = 0x16
-
-abbrev pub pending : ℕ
-pending = 0x1b
-
--- The error that each rule answers with,
-abbrev pub errorOf : Rule → ℕ
-errorOf rule.NotSupported = notSupported
-errorOf rule.NotServed = badPrim
-errorOf rule.TooShort = badPrim
-errorOf rule.NoRow = outState
-errorOf rule.UnknownPpa = badPpa
-errorOf rule.UnknownMode = unsupported
-errorOf rule.Management = unsupported
-errorOf rule.AutomaticXid = noAuto
-errorOf rule.SapNotAllowed = badAddr
-errorOf rule.TypeInModeOne = unsupported
-errorOf rule.ListenedFor = bound
-errorOf rule.ConnectQos = badQosType
-errorOf rule.AddressLength = badAddr
-errorOf rule.AddressTooEarly = badAddr
-errorOf rule.AddressTooLate = badAddr
-errorOf rule.AddressSapOdd = badAddr
-errorOf rule.AcceptNotOpen = badCorr
-errorOf rule.AcceptQos = badQosType
-errorOf rule.OthersOpen = pending
-errorOf rule.TokenOfNone = badToken
-errorOf rule.CarrierNotIdle = outState
-errorOf rule.CarrierOfOtherPpa = access
-errorOf rule.CarrierConnectionless = access
-errorOf rule.DenialNotOpen = badCorr
-errorOf rule.NumberNotZero = badCorr
-
--- and the step of the order that it belongs to.
-abbrev pub stepOf : Rule → ℕ
-stepOf rule.NotSupported = 1
-stepOf rule.NotServed = 1
-stepOf rule.TooShort = 1
-stepOf rule.NoRow = 2
-stepOf rule.UnknownPpa = 3
-stepOf rule.UnknownMode = 4
-stepOf rule.Management = 4
-stepOf rule.AutomaticXid = 4
-stepOf rule.SapNotAllowed = 4
-stepOf rule.TypeInModeOne = 4
-stepOf rule.ListenedFor = 4
-stepOf rule.ConnectQos = 5
-stepOf rule.AddressLength = 5
-stepOf rule.AddressTooEarly = 5
-stepOf rule.AddressTooLate = 5
-stepOf rule.AddressSapOdd = 5
-stepOf rule.AcceptNotOpen = 6
-stepOf rule.AcceptQos = 6
-stepOf rule.OthersOpen = 6
-stepOf rule.TokenOfNone = 6
-stepOf rule.CarrierNotIdle = 6
-stepOf rule.CarrierOfOtherPpa = 6
-stepOf rule.CarrierConnectionless = 6
-stepOf rule.DenialNotOpen = 7
-stepOf rule.NumberNotZero = 7
-
--- Step 1 is `askedBy` of the messages. Step 2 is the first line of `judge`, at the end.
+-- 1. Another code than a served request's, or L under the size: `askedBy` (Messages). 2. No row: `judge`, below.
 
 -- 3. ATTACH: unknown PPA, BADPPA.
 unfoldable pub judgeAttach : PpaNumber → Bool → Verdict
