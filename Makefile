@@ -8,7 +8,7 @@ GENERATE = $(filter-out c/generate/main.c c/generate/coverage.c,$(wildcard c/gen
 HEADERS = $(wildcard c/*/*.h)
 CAPTURES = $(patsubst captures/%.records,target/captures/%,$(wildcard captures/*.records))
 
-.PHONY: all check demo replay c captures texts selftest coverage paper clean
+.PHONY: all check demo replay c sanitized captures texts definitions selftest coverage paper clean
 
 all: c captures
 
@@ -46,6 +46,8 @@ target/c/coverage: $(GENERATE) c/generate/coverage.c $(SECOND) $(HEADERS)
 	$(CC) $(CFLAGS) -Ic/second -o $@ $(GENERATE) c/generate/coverage.c $(SECOND)
 
 # the same under AddressSanitizer and UndefinedBehaviorSanitizer
+sanitized: target/c/sanitized/second target/c/sanitized/selftest target/c/sanitized/coverage
+
 target/c/sanitized/second: $(SECOND) c/second/main.c $(HEADERS)
 	@mkdir -p $(@D)
 	$(CC) $(SANITIZE) -o $@ $(SECOND) c/second/main.c
@@ -68,6 +70,10 @@ target/captures/%: captures/%.records captures/assemble.py
 # each capture prints its expected text
 texts: target/c/second captures
 	tools/texts target/c/second
+
+# the same by the definitions of crates/paper
+definitions:
+	tools/definitions.py
 
 selftest: target/c/selftest
 	target/c/selftest
