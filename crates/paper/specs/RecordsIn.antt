@@ -46,15 +46,16 @@ sizeOf kind.Unknown = 0
 unfoldable pub recordSize : List ℕ → ℕ
 recordSize r = leb (sizeOf (kindOf (getD r 0 0))) (length r) ⇒ sizeOf (kindOf (getD r 0 0)) ∣ 0
 
--- P and C: stream, L, block. The block's bytes past L are zero, where L is at most 96.
+-- P and C: stream, L, block.
 abbrev pub streamIn : List ℕ → ℕ
 streamIn r = getD r 1 0
 
 abbrev pub sizeIn : List ℕ → ℕ
 sizeIn r = getD r 2 0
 
-unfoldable pub isPadded : List ℕ → Bool
-isPadded r = both (leb (sizeIn r) 96) (not (allZero (part r (3 + sizeIn r) (96 - sizeIn r))))
+-- The block's bytes past L are zero. With L over 96 there are none.
+unfoldable pub hasNonzeroPadding : List ℕ → Bool
+hasNonzeroPadding r = both (leb (sizeIn r) 96) (not (allZero (part r (3 + sizeIn r) (96 - sizeIn r))))
 
 -- the L bytes of the message
 abbrev pub messageIn : List ℕ → ℕ → List ℕ
@@ -80,7 +81,7 @@ abbrev pub inputAs : Kind → List ℕ → Input
 inputAs kind.AddPpa r = input.AddPpa (record { 0 = be32At r 1 })
 inputAs kind.Open r = input.Open
 inputAs kind.Close r = input.Close (streamIn r)
-inputAs kind.Message r = isPadded r ⇒ input.Padded ∣ input.Message (streamIn r) (sizeIn r)
+inputAs kind.Message r = hasNonzeroPadding r ⇒ input.Padded ∣ input.Message (streamIn r) (sizeIn r)
 inputAs kind.CallArrives r = input.CallArrives (record { 0 = be32At r 1 }) (getD r 11 0)
 inputAs kind.PeerAccepted r = input.PeerAccepted (streamIn r)
 inputAs kind.PeerGone r = input.PeerGone (streamIn r) (be32At r 2)

@@ -88,6 +88,7 @@ pub enum Primitive {
     NotServed,
 }
 
+// `most` is max_conind, `management` conn_mgmt.
 pub struct BindRequest {
     pub sap: u32,
     pub most: u32,
