@@ -4,7 +4,7 @@ use mathlib.Core.Bool.{true}
 use Rattle.ledger.specs.Choice.{_⇒_∣_}
 use Rattle.paper.specs.Base.{lowestFree, knows, macOf, withSlot, withCalls, withStream, withCounter, withPpa, remembering}
 use Rattle.paper.specs.Correlations.{occurrences, nextNumber}
-use Rattle.paper.specs.ErrorOrder.{judgeAttach, judgeListening, judgeBind, judgeConnect, carrierOf, judgeOther, judgeCarrier, judgeAccept, judgeDenial, judgeDisconnect, isWaiting, judgeServed, judge}
+use Rattle.paper.specs.ErrorOrder.{judgeAttach, judgeListening, judgeBind, judgeConnect, carrierOf, judgeOther, judgeItself, judgeCarrier, judgeAccept, judgeDenial, judgeDisconnect, isWaiting, judgeServed, judge}
 use Rattle.paper.specs.Events.{eventRow, peerAccepted, peerGone, callWithdrawn, peerReset, resetConfirmed, ringing, rings, hears, heardBy, callArrives}
 use Rattle.paper.specs.Messages.{otherCode, primitiveOf, sized, askedBy}
 use Rattle.paper.specs.Openings.{addsPpa, opens, goodbyes, closes}
@@ -18,5 +18,5 @@ use Rattle.paper.specs.Step.{answered, ofOpen, message, step}
 use Rattle.paper.specs.Examples.{allHold}
 
 pub starred-hold : allHold ≡ true
-unfolding _⇒_∣_ allHold lowestFree knows macOf withSlot withCalls withStream withCounter withPpa remembering occurrences nextNumber judgeAttach judgeListening judgeBind judgeConnect carrierOf judgeOther judgeCarrier judgeAccept judgeDenial judgeDisconnect isWaiting judgeServed judge eventRow peerAccepted peerGone callWithdrawn peerReset resetConfirmed ringing rings hears heardBy callArrives otherCode primitiveOf sized askedBy addsPpa opens goodbyes closes kindOf recordSize hasNonzeroPadding inputOf inOrder addressOf infoOf infoTail contentOf hasRow losing carryingItself moved tableAfter ordersOf flushes repliesTo performed isSap isType grantOf asBindAllows listens listener isListenedFor holdsNothing soundSlot isSingle isAlone sound answered ofOpen message step
+unfolding _⇒_∣_ allHold lowestFree knows macOf withSlot withCalls withStream withCounter withPpa remembering occurrences nextNumber judgeAttach judgeListening judgeBind judgeConnect carrierOf judgeOther judgeItself judgeCarrier judgeAccept judgeDenial judgeDisconnect isWaiting judgeServed judge eventRow peerAccepted peerGone callWithdrawn peerReset resetConfirmed ringing rings hears heardBy callArrives otherCode primitiveOf sized askedBy addsPpa opens goodbyes closes kindOf recordSize hasNonzeroPadding inputOf inOrder addressOf infoOf infoTail contentOf hasRow losing carryingItself moved tableAfter ordersOf flushes repliesTo performed isSap isType grantOf asBindAllows listens listener isListenedFor holdsNothing soundSlot isSingle isAlone sound answered ofOpen message step
 starred-hold = refl

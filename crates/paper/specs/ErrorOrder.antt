@@ -77,9 +77,13 @@ judgeOther s n c x =
     ∣ eqb (x .mode) 2 ⇒ Fails rule.CarrierConnectionless
     ∣ Serves (row.AcceptOn n c)
 
--- 6. This stream: with more than one open, PENDING. Token of no open stream, BADTOKEN.
+-- 6. This stream: with more than one open, PENDING.
+unfoldable pub judgeItself : Correlation → ℕ → Verdict
+judgeItself n count = ltb 1 count ⇒ Fails rule.OthersOpen ∣ Serves (row.AcceptHere n)
+
+-- 6. Token of no open stream, BADTOKEN.
 unfoldable pub judgeCarrier : Stream → Correlation → ℕ → Carrier → Verdict
-judgeCarrier s n count Itself = ltb 1 count ⇒ Fails rule.OthersOpen ∣ Serves (row.AcceptHere n)
+judgeCarrier s n count Itself = judgeItself n count
 judgeCarrier s n count None = Fails rule.TokenOfNone
 judgeCarrier s n count (Other c x) = judgeOther s n c x
 
