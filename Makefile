@@ -3,9 +3,10 @@ CC = gcc
 CFLAGS = -std=c11 -O2 -Wall -Wextra -Wpedantic -Werror
 SANITIZE = -std=c11 -O1 -g -Wall -Wextra -Wpedantic -Werror -fsanitize=address,undefined -fno-sanitize-recover=all
 
-SECOND = $(filter-out c/second/main.c c/second/selftest.c,$(wildcard c/second/*.c))
+SECOND = $(filter-out c/second/main.c,$(wildcard c/second/*.c))
+SELFTEST = $(wildcard c/second/test/*.c)
 GENERATE = $(filter-out c/generate/main.c c/generate/coverage.c,$(wildcard c/generate/*.c))
-HEADERS = $(wildcard c/*/*.h)
+HEADERS = $(wildcard c/*/*.h c/*/*/*.h)
 CAPTURES = $(patsubst captures/%.records,target/captures/%,$(wildcard captures/*.records))
 
 .PHONY: all check demo replay c sanitized captures texts definitions selftest coverage paper clean
@@ -33,9 +34,9 @@ target/c/second: $(SECOND) c/second/main.c $(HEADERS)
 	@mkdir -p $(@D)
 	$(CC) $(CFLAGS) -o $@ $(SECOND) c/second/main.c
 
-target/c/selftest: $(SECOND) c/second/selftest.c $(HEADERS)
+target/c/selftest: $(SECOND) $(SELFTEST) $(HEADERS)
 	@mkdir -p $(@D)
-	$(CC) $(CFLAGS) -o $@ $(SECOND) c/second/selftest.c
+	$(CC) $(CFLAGS) -Ic/second -o $@ $(SECOND) $(SELFTEST)
 
 target/c/generate: $(GENERATE) c/generate/main.c $(SECOND) $(HEADERS)
 	@mkdir -p $(@D)
@@ -52,9 +53,9 @@ target/c/sanitized/second: $(SECOND) c/second/main.c $(HEADERS)
 	@mkdir -p $(@D)
 	$(CC) $(SANITIZE) -o $@ $(SECOND) c/second/main.c
 
-target/c/sanitized/selftest: $(SECOND) c/second/selftest.c $(HEADERS)
+target/c/sanitized/selftest: $(SECOND) $(SELFTEST) $(HEADERS)
 	@mkdir -p $(@D)
-	$(CC) $(SANITIZE) -o $@ $(SECOND) c/second/selftest.c
+	$(CC) $(SANITIZE) -Ic/second -o $@ $(SECOND) $(SELFTEST)
 
 target/c/sanitized/coverage: $(GENERATE) c/generate/coverage.c $(SECOND) $(HEADERS)
 	@mkdir -p $(@D)

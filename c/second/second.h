@@ -7,9 +7,9 @@
  * address, and a pointer may be NULL where its length is 0.
  *
  * Building, from this directory:
- *   replay program:  every .c file except selftest.c
- *   self test:       every .c file except main.c
- *   provider alone:  every .c file except main.c, replay.c and selftest.c
+ *   replay program:  every .c file
+ *   self test:       every .c file except main.c, and those of test/
+ *   provider alone:  every .c file except main.c and replay.c
  */
 #ifndef SECOND_H
 #define SECOND_H
