@@ -14,7 +14,6 @@ import sys
 TOP = pathlib.Path(__file__).resolve().parent.parent
 HERE = TOP / "target/definitions"
 BELOW = ["ledger", "octets", "paper"]
-SIZES = {"G": 11, "O": 1, "X": 2, "P": 99, "C": 99, "I": 19, "A": 9, "D": 6, "W": 10, "R": 6, "S": 2}
 
 CLAIMS = """\
 -- What the definitions come to on the captures.
@@ -44,13 +43,22 @@ replays t (call r n k w ∷ l) = both (comes (step t r 128) n k w) (replays (ste
 """
 
 
-def assembled(name):
-    """The bytes of a readable capture."""
+def assembler():
+    """captures/assemble.py as a module."""
     spec = importlib.util.spec_from_file_location("assemble", TOP / "captures/assemble.py")
     module = importlib.util.module_from_spec(spec)
     spec.loader.exec_module(module)
+    return module
+
+
+ASSEMBLE = assembler()
+SIZES = {**ASSEMBLE.SIZE, **{kind: ASSEMBLE.FULL for kind in ASSEMBLE.FILLED}}
+
+
+def assembled(name):
+    """The bytes of a readable capture."""
     lines = (TOP / "captures" / (name + ".records")).read_text().split("\n")
-    return b"".join(module.assemble_line(line, lambda _: None) for line in lines)
+    return b"".join(ASSEMBLE.assemble_line(line, lambda _: None) for line in lines)
 
 
 def lent(capture):

@@ -88,38 +88,12 @@ paste-length b at s h =
     let f : length (take at b ++ s) ≡ at + length s = paste-front b at s (omega arith) in
     omega (arith, length-append (take at b ++ s) (drop (at + length s) b), length-drop (at + length s) b)
 
--- the run stands there
-pub paste-same : (b : List ℕ) (at : ℕ) (s : List ℕ) (n : ℕ) → at + length s ≤ length b → length s ≡ n → part (paste b at s) at n ≡ s
-paste-same b at s n h e =
-    let t : length (take at b) ≡ at = length-take-le at b (omega arith) in
-    rw (append-assoc, drop-at (take at b) (s ++ drop (at + length s) b) at t) (take-at s (drop (at + length s) b) n e)
-
--- a part that ends before a place is one of what stands before that place
-part-take : (l : List ℕ) (at k n : ℕ) → k + n ≤ at → part l k n ≡ part (take at l) k n
-part-take l at zero n h = rw (take-take n at l (omega arith))
-part-take [] at (suc k) n h = simp take-nil
-part-take (x ∷ l) zero (suc k) n h = absurd (omega arith)
-part-take (x ∷ l) (suc at) (suc k) n h = part-take l at k n (omega arith)
-
--- what lies before it is kept
-pub paste-before : (b : List ℕ) (at : ℕ) (s : List ℕ) (k n : ℕ) → at ≤ length b → k + n ≤ at → part (paste b at s) k n ≡ part b k n
-paste-before b at s k n h g =
-    let r : List ℕ = s ++ drop (at + length s) b in
-    let t : take at (paste b at s) ≡ take at b = rw append-assoc (take-at (take at b) r at (length-take-le at b h)) in
-    part-take (paste b at s) at k n g ∙ ap (λ (l : List ℕ). part l k n) t ∙ sym (part-take b at k n g)
-
 -- all behind it is kept
 paste-rest : (b : List ℕ) (at : ℕ) (s : List ℕ) (k : ℕ) → at ≤ length b → drop (at + length s + k) (paste b at s) ≡ drop (at + length s + k) b
 paste-rest b at s k h =
     sym (drop-drop k (at + length s) (paste b at s))
     ∙ ap (drop k) (drop-at (take at b ++ s) (drop (at + length s) b) (at + length s) (paste-front b at s h))
     ∙ drop-drop k (at + length s) b
-
--- what lies behind it is kept
-pub paste-behind : (b : List ℕ) (at : ℕ) (s : List ℕ) (k n : ℕ) → at + length s ≤ length b → at + length s ≤ k → part (paste b at s) k n ≡ part b k n
-paste-behind b at s k n h g =
-    let e : at + length s + (k - (at + length s)) ≡ k = omega arith in
-    rw e at (ap (take n) (paste-rest b at s (k - (at + length s)) (omega arith)))
 
 -- two runs, one behind the other
 pub paste-join : (b : List ℕ) (at : ℕ) (s r : List ℕ) → at ≤ length b → paste b at (s ++ r) ≡ paste (paste b at s) (at + length s) r
