@@ -6,3 +6,4 @@ pub mod Stored
 pub mod TableBack
 pub mod TidyImage
 pub mod ImageBack
+pub mod Lending

@@ -76,6 +76,17 @@ pub zero-more : (s : List ℕ) (i any : ℕ) → i < length s
 zero-more s i any h =
     rw (or-zero, add-one, drop-cons s i 0) (and-assoc (eqb any 0) (eqb (getD s i 0) 0) (allZero (drop (suc i) s)))
 
+-- ---- a part of a list
+
+-- past the end there is none
+pub part-past : (s : List ℕ) (at n : ℕ) → length s ≤ at → part s at n ≡ []
+part-past s at n h = ap (take n) (drop-of-length-le s h) ∙ take-nil n
+
+-- a part that would go past the end goes up to it
+pub part-rest : (s : List ℕ) (at n : ℕ) → length s - at ≤ n → part s at n ≡ part s at (length s - at)
+part-rest s at n h =
+    take-all n (drop at s) (omega (arith, length-drop at s)) ∙ sym (take-all (length s - at) (drop at s) (omega (arith, length-drop at s)))
+
 -- ---- a run over a list from a place on
 
 -- the length of what stands before its end

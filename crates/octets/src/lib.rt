@@ -4,7 +4,7 @@ ghost use mathlib.Core.List.{_++_};
 ghost use Prim.Native.Nat.{_+_, _*_, _<_, _≤_};
 ghost use lib.ListN.{length, getD};
 ghost use Rattle.octets.specs.Numbers.{be16At, be32At, be16, be32};
-ghost use Rattle.octets.specs.Runs.{paste, allZero, sameBytes};
+ghost use Rattle.octets.specs.Runs.{part, paste, allZero, sameBytes};
 ghost use Rattle.octets.specs.Blocks.{flat, pad};
 
 // A byte, or 0 past the end.
@@ -135,4 +135,19 @@ pub fn same_bytes(a: &[u8], b: &[u8]) -> bool
         i += 1;
     }
     true
+}
+
+// Of n bytes from a place on, those that are there.
+pub fn part_at<'a>(s: &'a [u8], at: usize, n: usize) -> &'a [u8]
+    requires { ⌜ at + n ≤ 4096 ⌝ }
+    ensures { λ r. ⌜ now r ≡ part (now (s .entry)) at n ⌝ }
+{
+    let len = s.len();
+    if len < at {
+        return &s[len..len];
+    }
+    if len - at < n {
+        return &s[at..len];
+    }
+    &s[at..at + n]
 }

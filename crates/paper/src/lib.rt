@@ -1,4 +1,6 @@
 // The rule paper's quantities, states, requests, rules, rows and records, as values. What each means stands in specs/.
+ghost use mathlib.Core.Path.{_≡_};
+ghost use Rattle.paper.specs.Base.{numberOf};
 
 // What the paper calls unlike quantities: no one can stand for another.
 pub struct Token(pub u32);
@@ -22,6 +24,22 @@ pub enum State {
     DataXfer,
     UserResetPending,
     ProvResetPending,
+}
+
+// A state's number in the manual's state table.
+pub fn number_of(q: State) -> u8
+    ensures { λ r. ⌜ r ≡ numberOf q ⌝ }
+{
+    match q {
+        State::Unattached => 0,
+        State::Unbound => 3,
+        State::Idle => 6,
+        State::OutconPending => 8,
+        State::InconPending => 9,
+        State::DataXfer => 11,
+        State::UserResetPending => 12,
+        State::ProvResetPending => 13,
+    }
 }
 
 // An open stream, but for the numbers of its open indications. What it does not hold is zero.

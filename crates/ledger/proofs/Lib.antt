@@ -1,0 +1,3 @@
+-- Laws of tests and counts that the proofs of other crates cite.
+pub mod Tallies
+pub mod Found
