@@ -2,6 +2,8 @@
 use Prim.Native.Nat.{ℕ, zero, suc, _+_, _-_, _*_, _/_, _%_, _^_, _≤_, _<_}
 use native.Mathlib.Omega.{arith}
 use native.Mathlib.Nat.{div-one, pow-succ', div-div-eq-div-mul}
+use lib.Pow.{shl-exact}
+use lib.Dec.{lit<}
 use mathlib.Core.Path.{_≡_, refl, sym, ap, _∙_}
 use mathlib.Core.Bool.{Bool, true, false, not}
 use mathlib.Core.List.{List, [], _∷_}
@@ -20,6 +22,22 @@ bit-zero m = ap (λ (x : ℕ). x % 2) (div-one m)
 
 bit-suc : (m i : ℕ) → bit m (suc i) ≡ bit (m / 2) i
 bit-suc m i = ap (λ (x : ℕ). m / x % 2) (pow-succ' 2 i) ∙ ap (λ (x : ℕ). x % 2) (sym (div-div-eq-div-mul m 2 (2 ^ i)))
+
+-- what has bit i is no less than the bit
+pub set-le : (i m : ℕ) → bit m i ≡ 1 → 2 ^ i ≤ m
+set-le zero m h = omega (arith, bit-zero m)
+set-le (suc i) m h = omega (arith, pow-succ' 2 i, set-le i (m / 2) (sym (bit-suc m i) ∙ h))
+
+-- what has k bits and not bit i has k bits with it
+pub raise-fits : (i k m : ℕ) → i < k → m < 2 ^ k → bit m i ≡ 0 → m + 2 ^ i < 2 ^ k
+raise-fits i zero m l h z = absurd (omega arith)
+raise-fits zero (suc k) m l h z = omega (arith, bit-zero m, pow-succ' 2 k)
+raise-fits (suc i) (suc k) m l h z =
+    omega (arith, pow-succ' 2 k, pow-succ' 2 i, raise-fits i k (m / 2) (omega arith) (omega (arith, pow-succ' 2 k)) (sym (bit-suc m i) ∙ z))
+
+-- the code's bit i
+pub one-shl : (i : ℕ) → i < 16 → 1 * 2 ^ i % 2 ^ 16 ≡ 2 ^ i
+one-shl i h = let e : 1 * 2 ^ i % 2 ^ 16 ≡ 1 * 2 ^ i = shl-exact 1 i 16 (lit< tt) (omega arith) in omega arith
 
 -- ---- bits of the mask
 

@@ -6,7 +6,8 @@ use mathlib.Core.Path.{_≡_, refl, sym, ap, _∙_}
 use mathlib.Core.Bool.{true}
 use mathlib.Core.List.{List, [], _∷_, _++_, append-assoc, append-nil}
 use lib.ListN.{length, getD, take, drop, set, replicate, length-append, length-replicate, length-drop, replicate-append-replicate}
-use lib.Seq.{take-at, drop-at, take-length, take-add, drop-drop, length-take-le, split-at, set-split, ext-getD}
+use lib.Seq.{take-at, drop-at, take-length, take-add, drop-drop, length-take-le, getD-take, getD-drop, split-at, set-split, ext-getD}
+use Rattle.octets.specs.Numbers.{be16At, be32At}
 use Rattle.octets.specs.Runs.{part, paste, allZero}
 use Rattle.octets.proofs.Laws.{paste-middle, zero-replicate}
 use Rattle.image.specs.Layout.{listed, joined, padTo}
@@ -152,6 +153,18 @@ part-length c at n h = length-take-le n (drop at c) (omega (arith, length-drop a
 -- a part as two
 pub part-add : (c : List ℕ) (at n m : ℕ) → part c at (n + m) ≡ part c at n ++ part c (at + n) m
 part-add c at n m = take-add n m (drop at c) ∙ ap (λ (r : List ℕ). part c at n ++ take m r) (drop-drop n at c)
+
+-- a byte of a part, which is byte m of the whole
+pub part-byte : (c : List ℕ) (at n k m : ℕ) → k < n → at + k ≡ m → getD (part c at n) k 0 ≡ getD c m 0
+part-byte c at n k m h e = getD-take n (drop at c) k 0 h ∙ getD-drop at c k 0 ∙ ap (λ (j : ℕ). getD c j 0) e
+
+-- a number of two bytes, and one of four
+pub part-be16 : (c : List ℕ) (at n k m : ℕ) → k + 1 < n → at + k ≡ m → be16At (part c at n) k ≡ be16At c m
+part-be16 c at n k m h e = omega (arith, part-byte c at n k m (omega arith) e, part-byte c at n (k + 1) (m + 1) h (omega arith))
+
+pub part-be32 : (c : List ℕ) (at n k m : ℕ) → k + 3 < n → at + k ≡ m → be32At (part c at n) k ≡ be32At c m
+part-be32 c at n k m h e =
+    omega (arith, part-byte c at n k m (omega arith) e, part-byte c at n (k + 1) (m + 1) (omega arith) (omega arith), part-byte c at n (k + 2) (m + 2) (omega arith) (omega arith), part-byte c at n (k + 3) (m + 3) h (omega arith))
 
 module _ {A : Type 0} (f : A → List ℕ) (g : ℕ → A) (c : List ℕ) (w b : ℕ) where
   -- pieces read one after the other

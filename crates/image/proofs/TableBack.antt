@@ -4,8 +4,8 @@ use native.Mathlib.Omega.{arith}
 use mathlib.Core.Path.{_≡_, refl, sym, ap, _∙_}
 use mathlib.Core.Bool.{Bool, true, false, not}
 use mathlib.Core.List.{List, [], _∷_, _++_, append-assoc, append-nil}
-use lib.ListN.{length, getD, drop, replicate}
-use lib.Seq.{take-all, getD-take, getD-drop}
+use lib.ListN.{length, getD, replicate}
+use lib.Seq.{take-all}
 use lib.Dec.{eqb}
 use Rattle.ledger.specs.Choice.{_⇒_∣_}
 use Rattle.ledger.specs.Tally.{oneIf}
@@ -21,7 +21,7 @@ use Rattle.paper.specs.declared.Ppa.{Ppa}
 use Rattle.image.specs.Layout.{ppaBase, slotBase, listed, bit, stateOf, ppaFrom, streamFrom, waitingFrom, maskIn, slotAt, ppaAt, tableOf, joined, maskOf, ppaBytes, streamBytes, waitingBytes, slotBytes, headerBytes, imageOf}
 use Rattle.image.specs.Shape.{Shaped}
 use Rattle.image.proofs.Bits.{mask-bit}
-use Rattle.image.proofs.Joined.{listed-at, listed-back, joined-at}
+use Rattle.image.proofs.Joined.{listed-at, listed-back, joined-at, part-be32}
 use Rattle.image.proofs.Shapes.{slots-wide, ppas-wide, header-length}
 use Rattle.image.proofs.Stored.{firstBytes}
 
@@ -60,11 +60,7 @@ stream-back s r =
 
 -- a number read out of its four bytes alone
 pub be32At-part : (c : List ℕ) (at : ℕ) → be32At (part c at 4) 0 ≡ be32At c at
-be32At-part c at =
-    omega (arith, byte 0 at (omega arith) (omega arith), byte 1 (at + 1) (omega arith) refl, byte 2 (at + 2) (omega arith) refl, byte 3 (at + 3) (omega arith) refl)
-  where
-    byte : (k m : ℕ) → k < 4 → at + k ≡ m → getD (part c at 4) k 0 ≡ getD c m 0
-    byte k m h e = getD-take 4 (drop at c) k 0 h ∙ getD-drop at c k 0 ∙ ap (λ (j : ℕ). getD c j 0) e
+be32At-part c at = part-be32 c at 4 0 at (omega arith) (omega arith)
 
 -- numbers are pieces of four bytes
 pub flat-joined : (w : List ℕ) → flat w ≡ joined be32 w
@@ -90,7 +86,7 @@ ppa-back p h = λ i. record { number = record { 0 = be32At-be32 (p .number .0) [
 -- ---- the table
 
 module _ (t : Table) (s : Shaped t) where
-  mask-back : maskIn (imageOf t) ≡ maskOf (t .slots)
+  pub mask-back : maskIn (imageOf t) ≡ maskOf (t .slots)
   unfolding imageOf headerBytes
   mask-back = be16At-be16 (maskOf (t .slots)) []
 

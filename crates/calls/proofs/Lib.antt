@@ -1,0 +1,3 @@
+-- Laws that the proofs of this crate and of its callers cite.
+pub mod Laws
+pub mod Next

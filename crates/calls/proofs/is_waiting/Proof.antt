@@ -1,0 +1,17 @@
+use borrow.Author.Needs.{needs}
+use denote.Ref.{now}
+use Rattle.paper.specs.ErrorOrder.{isWaiting}
+use Rattle.paper.specs.Base.{waiting}
+use Rattle.image.specs.Layout.{tableOf}
+use Rattle.calls.proofs.Laws.{has-first}
+use Rattle.calls.proofs.is_waiting.Statement.{statement}
+use Rattle.calls.proofs.is_waiting.Tie as tie
+
+returns : tie.Need-returns
+unfolding isWaiting
+returns c =
+    let a = c .before .before .before .args in
+    rw (c .place-of .ensures, c .before .count-at .ensures) (has-first (a .n .0) (waiting (tableOf (now (a .img))) (a .i)))
+
+pub is-waiting-spec : {M : Type 1} → statement M
+is-waiting-spec = tie.close (tie.spec (λ c κs. search needs) (λ c. search needs) (λ c κs. search needs) returns)

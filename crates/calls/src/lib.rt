@@ -1,0 +1,194 @@
+// The open numbers of the streams: reading, counting, the next number, one more, one less.
+ghost use mathlib.Core.Path.{_≡_};
+ghost use mathlib.Core.List.{[], _∷_, _++_};
+ghost use Prim.Native.Nat.{suc, _<_};
+ghost use lib.Dec.{eqb};
+ghost use lib.ListN.{length, getD, take, drop};
+ghost use Rattle.ledger.specs.Tally.{occ, without, firstOf, free};
+ghost use Rattle.octets.specs.Runs.{paste};
+ghost use Rattle.paper.specs.Base.{waiting, withCalls};
+ghost use Rattle.paper.specs.ErrorOrder.{isWaiting};
+ghost use Rattle.paper.specs.Correlations.{occurrences, nextNumber};
+ghost use Rattle.image.specs.Layout.{slotBase, tableOf, streamBytes, waitingBytes, imageOf};
+ghost use Rattle.image.specs.Lent.{Lent};
+use paper::Correlation;
+use paper::Stream;
+
+// The open number at a place, the oldest first.
+pub fn call_at(img: &[u8], i: usize, k: usize) -> Correlation
+    requires { ⌜ (i < 16) × (length (now img) ≡ 760) × Lent (now img) × (k < length (waiting (tableOf (now img)) i)) ⌝ }
+    ensures { λ r. ⌜ r ≡ record { 0 = getD (waiting (tableOf (now (img .entry))) i) k 0 } ⌝ }
+{
+    Correlation(octets::number32_at(img, i * 42 + k * 4 + 98))
+}
+
+// The first place of a number among a stream's open ones, or their count where it is not open.
+fn place_of(img: &[u8], i: usize, n: Correlation) -> usize
+    requires { ⌜ (i < 16) × (length (now img) ≡ 760) × Lent (now img) ⌝ }
+    ensures { λ r. ⌜ r ≡ firstOf (eqb (n .0)) (waiting (tableOf (now (img .entry))) i) ⌝ }
+{
+    let count = image::count_at(img, i) as usize;
+    let mut k: usize = 0;
+    while k < count {
+        let c = call_at(img, i, k);
+        if n.0 == c.0 {
+            return k;
+        }
+        k += 1;
+    }
+    count
+}
+
+// A number is open on a stream.
+pub fn is_waiting(img: &[u8], i: usize, n: Correlation) -> bool
+    requires { ⌜ (i < 16) × (length (now img) ≡ 760) × Lent (now img) ⌝ }
+    ensures { λ r. ⌜ r ≡ isWaiting (tableOf (now (img .entry))) i n ⌝ }
+{
+    let count = image::count_at(img, i) as usize;
+    place_of(img, i, n) < count
+}
+
+// How many numbers stay open on a stream without one of them.
+pub fn remaining(img: &[u8], i: usize, n: Correlation) -> u8
+    requires { ⌜ (i < 16) × (length (now img) ≡ 760) × Lent (now img) ⌝ }
+    ensures { λ r. ⌜ r ≡ length (without (n .0) (waiting (tableOf (now (img .entry))) i)) ⌝ }
+{
+    let count = image::count_at(img, i);
+    if is_waiting(img, i, n) {
+        return count - 1;
+    }
+    count
+}
+
+// How often a number is open on a stream.
+fn occurs_on(img: &[u8], i: usize, n: u32) -> u32
+    requires { ⌜ (i < 16) × (length (now img) ≡ 760) × Lent (now img) ⌝ }
+    ensures { λ r. ⌜ r ≡ occ n (waiting (tableOf (now (img .entry))) i) ⌝ }
+{
+    let count = image::count_at(img, i) as usize;
+    let mut total: u32 = 0;
+    let mut k: usize = 0;
+    while k < count {
+        let c = call_at(img, i, k);
+        if n == c.0 {
+            total += 1;
+        }
+        k += 1;
+    }
+    total
+}
+
+// How often a number is open in the table.
+pub fn occurrences(img: &[u8], n: u32) -> u32
+    requires { ⌜ (length (now img) ≡ 760) × Lent (now img) ⌝ }
+    ensures { λ r. ⌜ r ≡ occurrences (tableOf (now (img .entry))) n ⌝ }
+{
+    let mut total: u32 = 0;
+    let mut i: usize = 0;
+    while i < 16 {
+        total += occurs_on(img, i, n);
+        i += 1;
+    }
+    total
+}
+
+// Not 0, and open nowhere.
+fn is_free(img: &[u8], n: u32) -> bool
+    requires { ⌜ (length (now img) ≡ 760) × Lent (now img) ⌝ }
+    ensures { λ r. ⌜ r ≡ free (occurrences (tableOf (now (img .entry)))) n ⌝ }
+{
+    if 0 < n {
+        return occurrences(img, n) == 0;
+    }
+    false
+}
+
+// The counter's number, passing over 0 and numbers still open: at most 129 are passed over.
+pub fn next_number(img: &[u8]) -> u32
+    requires { ⌜ (length (now img) ≡ 760) × Lent (now img) ⌝ }
+    ensures { λ r. ⌜ r ≡ nextNumber (tableOf (now (img .entry))) ⌝ }
+{
+    let mut n = image::counter(img);
+    let mut left: u32 = 129;
+    while 0 < left {
+        if is_free(img, n) {
+            return n;
+        }
+        n = std::num::wrapping_add_u32(n, 1);
+        left -= 1;
+    }
+    n
+}
+
+// The bytes of a stream's open numbers: their count, the numbers, zeros.
+fn numbers_of(img: &[u8], i: usize) -> [u8; 33]
+    requires { ⌜ (i < 16) × (length (now img) ≡ 760) × Lent (now img) ⌝ }
+    ensures { λ r. ⌜ r ≡ waitingBytes (waiting (tableOf (now (img .entry))) i) ⌝ }
+{
+    let at = i * 42 + 97;
+    let mut bytes = [0u8; 33];
+    octets::put_bytes(&mut bytes, 0, &img[at..at + 33]);
+    bytes
+}
+
+// Those bytes with one number more behind the others.
+fn one_more(img: &[u8], i: usize, n: u32) -> [u8; 33]
+    requires { ⌜ (i < 16) × (length (now img) ≡ 760) × Lent (now img) × (length (waiting (tableOf (now img)) i) < 8) ⌝ }
+    ensures { λ r. ⌜ r ≡ waitingBytes (waiting (tableOf (now (img .entry))) i ++ (n ∷ [])) ⌝ }
+{
+    let count = image::count_at(img, i);
+    let mut bytes = numbers_of(img, i);
+    octets::put_number32(&mut bytes, (count as usize) * 4 + 1, n);
+    bytes[0] = count + 1;
+    bytes
+}
+
+// Those bytes without the number at a place: the later ones move down.
+fn one_less(img: &[u8], i: usize, k: usize) -> [u8; 33]
+    requires { ⌜ (i < 16) × (length (now img) ≡ 760) × Lent (now img) × (k < length (waiting (tableOf (now img)) i)) ⌝ }
+    ensures { λ r. ⌜ r ≡ waitingBytes (take k (waiting (tableOf (now (img .entry))) i) ++ drop (suc k) (waiting (tableOf (now (img .entry))) i)) ⌝ }
+{
+    let count = image::count_at(img, i);
+    let old = numbers_of(img, i);
+    let at = k * 4 + 1;
+    let mut bytes = [0u8; 33];
+    octets::put_bytes(&mut bytes, 0, &old[0..at]);
+    octets::put_bytes(&mut bytes, at, &old[at + 4..33]);
+    bytes[0] = count - 1;
+    bytes
+}
+
+// A stream's slot is written anew: how the stream stands, and the bytes of its open numbers.
+fn put_calls(img: &mut [u8], i: usize, s: Stream, bytes: [u8; 33])
+    requires { ⌜ (i < 16) × (length (now img) ≡ 760) ⌝ }
+    ensures { λ _. ⌜ now (img .exit) ≡ paste (now (img .entry)) (slotBase i) (streamBytes s ++ bytes) ⌝ }
+{
+    let at = i * 42 + 88;
+    let fields = image::stream_bytes(s);
+    octets::put_bytes(img, at, &fields);
+    octets::put_bytes(img, at + 9, &bytes);
+}
+
+// A stream stands anew, with one open number more.
+pub fn add_call(img: &mut [u8], i: usize, s: Stream, n: Correlation)
+    requires { ⌜ (i < 16) × (length (now img) ≡ 760) × Lent (now img) × (length (waiting (tableOf (now img)) i) < 8) ⌝ }
+    ensures { λ _. ⌜ now (img .exit) ≡ imageOf (withCalls (tableOf (now (img .entry))) i s (waiting (tableOf (now (img .entry))) i ++ (n .0 ∷ []))) ⌝ }
+{
+    let bytes = one_more(img, i, n.0);
+    put_calls(img, i, s, bytes);
+}
+
+// A stream stands anew, without one of its open numbers; with all of them where that one is not open.
+pub fn remove_call(img: &mut [u8], i: usize, s: Stream, n: Correlation)
+    requires { ⌜ (i < 16) × (length (now img) ≡ 760) × Lent (now img) ⌝ }
+    ensures { λ _. ⌜ now (img .exit) ≡ imageOf (withCalls (tableOf (now (img .entry))) i s (without (n .0) (waiting (tableOf (now (img .entry))) i))) ⌝ }
+{
+    let count = image::count_at(img, i) as usize;
+    let k = place_of(img, i, n);
+    if k < count {
+        let bytes = one_less(img, i, k);
+        put_calls(img, i, s, bytes);
+        return;
+    }
+    image::store_stream(img, i, s);
+}

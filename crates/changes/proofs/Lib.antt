@@ -1,0 +1,2 @@
+-- Laws of changes of the table that callers cite.
+pub mod Laws

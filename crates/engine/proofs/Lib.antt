@@ -1,0 +1,2 @@
+-- Laws of the call that this crate's proofs cite.
+mod Laws

@@ -1,0 +1,28 @@
+use Prim.Native.Nat.{ℕ}
+use mathlib.Core.Path.{sym, ap, _∙_}
+use denote.Ref.{now}
+use borrow.Author.Tests.{not-true, not-false}
+use Rattle.outcomes.specs.Leaving.{left}
+use Rattle.engine.proofs.Laws.{call-off}
+use borrow.Author.Needs.{needs}
+use Rattle.engine.proofs.call.Statement.{statement}
+use Rattle.engine.proofs.call.Tie as tie
+
+returns : tie.Need-returns
+returns c = ap (λ (n : ℕ). left n (now (c .before .before .before .before .before .before .before .args .img)) (now (c .before .before .before .before .before .before .before .args .room))) (c .refused .ensures) ∙ call-off (now (c .before .before .before .before .before .before .before .args .img)) (now (c .before .before .before .before .before .before .before .args .r)) (now (c .before .before .before .before .before .before .before .args .room)) (sym (c .before .before .sound-image .ensures) ∙ not-true _ (c .before .if1 .taken))
+
+call-sound-requires : tie.Need-call-sound-requires
+call-sound-requires c κs = sym (c .before .before .before .sound-image .ensures) ∙ not-false _ (c .before .before .if1 .left)
+
+pub call-spec : {M : Type 1} → statement M
+call-spec =
+    tie.close
+    (tie.spec
+    (λ c κs. search needs)
+    (λ c κs. search needs)
+    (λ c. search needs)
+    returns
+    call-sound-requires
+    (λ c. search needs)
+    (λ c. search needs)
+    (λ c. search needs))

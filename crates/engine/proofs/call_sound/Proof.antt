@@ -1,0 +1,43 @@
+use native.Mathlib.Omega.{arith}
+use mathlib.Core.Path.{sym, ap, _∙_}
+use mathlib.Core.Bool.{not}
+use denote.Ref.{now}
+use borrow.Author.Tests.{lt-ltb, le-ltb}
+use Rattle.image.specs.Layout.{tableOf}
+use Rattle.soundness.proofs.Slots.{sound-lent}
+use Rattle.image.proofs.Lending.{lent-length}
+use Rattle.outcomes.proofs.Laws.{leaves-refused, where-true, where-false}
+use Rattle.outcomes.specs.Leaving.{left, leaving}
+use Rattle.paper.specs.Step.{serve, isReadable}
+use Rattle.paper.specs.declared.Input.{Input}
+use Rattle.engine.proofs.Laws.{call-on}
+use borrow.Author.Needs.{needs}
+use Rattle.engine.proofs.call_sound.Statement.{statement}
+use Rattle.engine.proofs.call_sound.Tie as tie
+
+returns : tie.Need-returns
+returns c = where-true (now (c .before .before .before .before .before .before .before .args .img)) (now (c .before .before .before .before .before .before .before .args .room)) _ _ (ap not (sym (c .before .before .is-readable .ensures ∙ ap isReadable (c .before .before .before .input-of .ensures))) ∙ c .before .if1 .taken) (leaves-refused (now (c .before .before .before .before .before .before .before .args .img)) (now (c .before .before .before .before .before .before .before .args .room)) (tableOf (now (c .before .before .before .before .before .before .before .args .img))) 10 _ (omega arith) (c .refused .ensures)) ∙ call-on (now (c .before .before .before .before .before .before .before .args .img)) (now (c .before .before .before .before .before .before .before .args .r)) (now (c .before .before .before .before .before .before .before .args .room)) (c .before .before .before .before .before .before .before .pre)
+
+returns-2 : tie.Need-returns-2
+returns-2 c = where-false (now (c .before .before .before .before .before .before .before .before .args .img)) (now (c .before .before .before .before .before .before .before .before .args .room)) _ _ (ap not (sym (c .before .before .before .is-readable .ensures ∙ ap isReadable (c .before .before .before .before .input-of .ensures))) ∙ c .before .before .if1 .left) (where-true (now (c .before .before .before .before .before .before .before .before .args .img)) (now (c .before .before .before .before .before .before .before .before .args .room)) _ _ (lt-ltb _ _ (c .before .if2 .taken)) (leaves-refused (now (c .before .before .before .before .before .before .before .before .args .img)) (now (c .before .before .before .before .before .before .before .before .args .room)) (tableOf (now (c .before .before .before .before .before .before .before .before .args .img))) 1 _ (omega arith) (c .refused2 .ensures))) ∙ call-on (now (c .before .before .before .before .before .before .before .before .args .img)) (now (c .before .before .before .before .before .before .before .before .args .r)) (now (c .before .before .before .before .before .before .before .before .args .room)) (c .before .before .before .before .before .before .before .before .pre)
+
+serve-requires : tie.Need-serve-requires
+serve-requires c κs = (lent-length (now (c .before .before .before .before .before .before .before .before .before .args .img)) (sound-lent (now (c .before .before .before .before .before .before .before .before .before .args .img)) (c .before .before .before .before .before .before .before .before .before .pre)), c .before .before .before .before .before .before .before .before .before .pre, c .before .before .if2 .left, sym (c .before .before .before .before .before .input-of .ensures))
+
+returns-3 : tie.Need-returns-3
+returns-3 c = where-false (now (c .before .before .before .before .before .before .before .before .before .before .before .before .before .before .args .img)) (now (c .before .before .before .before .before .before .before .before .before .before .before .before .before .before .args .room)) _ _ (ap not (sym (c .before .before .before .before .before .before .before .before .before .is-readable .ensures ∙ ap isReadable (c .before .before .before .before .before .before .before .before .before .before .input-of .ensures))) ∙ c .before .before .before .before .before .before .before .before .if1 .left) (where-false (now (c .before .before .before .before .before .before .before .before .before .before .before .before .before .before .args .img)) (now (c .before .before .before .before .before .before .before .before .before .before .before .before .before .before .args .room)) _ _ (le-ltb _ _ (c .before .before .before .before .before .before .before .if2 .left)) (c .before .before .before .before .serve .ensures ∙ ap (λ (q : Input). leaving (now (c .before .before .before .before .before .before .before .before .before .before .before .before .before .before .args .img)) (now (c .before .before .before .before .before .before .before .before .before .before .before .before .before .before .args .room)) (serve (tableOf (now (c .before .before .before .before .before .before .before .before .before .before .before .before .before .before .args .img))) (now (c .before .before .before .before .before .before .before .before .before .before .before .before .before .before .args .r)) q)) (c .before .before .before .before .before .before .before .before .before .before .input-of .ensures))) ∙ call-on (now (c .before .before .before .before .before .before .before .before .before .before .before .before .before .before .args .img)) (now (c .before .before .before .before .before .before .before .before .before .before .before .before .before .before .args .r)) (now (c .before .before .before .before .before .before .before .before .before .before .before .before .before .before .args .room)) (c .before .before .before .before .before .before .before .before .before .before .before .before .before .before .pre)
+
+pub call-sound-spec : {M : Type 1} → statement M
+call-sound-spec =
+    tie.close
+    (tie.spec
+    (λ c κs. search needs)
+    (λ c κs. search needs)
+    (λ c κs. search needs)
+    returns
+    (λ c κs. search needs)
+    returns-2
+    serve-requires
+    (λ c. search needs)
+    (λ c. search needs)
+    returns-3)

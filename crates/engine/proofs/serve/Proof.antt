@@ -1,0 +1,153 @@
+use Prim.Native.Nat.{ℕ}
+use native.Mathlib.Omega.{arith}
+use mathlib.Core.Path.{ap, _∙_}
+use mathlib.Core.List.{List}
+use denote.Ref.{now}
+use lib.ListN.{take, drop}
+use Rattle.image.specs.Layout.{tableOf}
+use Rattle.records.proofs.Laws.{adds-long, calls-long}
+use Rattle.soundness.proofs.Slots.{shut, sound-lent}
+use Rattle.image.proofs.Joined.{part-length}
+use Rattle.outcomes.proofs.Laws.{part-most, leaves-refused}
+use Rattle.outcomes.specs.Leaving.{leaving}
+use Rattle.paper.specs.Openings.{addsPpa}
+use Rattle.paper.specs.Events.{callArrives, peerAccepted}
+use Rattle.paper.specs.Step.{ofOpen, message}
+use Rattle.engine.proofs.Laws.{parts, granted-few, first-seven, other-seven}
+use borrow.Author.Needs.{needs}
+use Rattle.engine.proofs.serve.Statement.{statement}
+use Rattle.engine.proofs.serve.Tie as tie
+
+add-ppa-requires : tie.Need-add-ppa-requires
+add-ppa-requires c κs = (c .before .before .before .before .before .before .before .before .pre .0, sound-lent (now (c .before .before .before .before .before .before .before .before .args .img)) (c .before .before .before .before .before .before .before .before .pre .1), rw (c .part-at .ensures) (part-length (now (c .before .before .before .before .before .before .before .before .args .r)) 5 6 (adds-long (now (c .before .before .before .before .before .before .before .before .args .r)) _ (c .before .before .before .before .before .before .before .before .pre .3 ∙ c .before .before .before .q .given .1))))
+
+open-stream-requires : tie.Need-open-stream-requires
+open-stream-requires c κs = (c .before .before .before .before .before .before .pre .0, sound-lent (now (c .before .before .before .before .before .before .args .img)) (c .before .before .before .before .before .before .pre .1), shut (tableOf (now (c .before .before .before .before .before .before .args .img))) (parts (now (c .before .before .before .before .before .before .args .img)) (c .before .before .before .before .before .before .pre .1) .1))
+
+close-stream-requires : tie.Need-close-stream-requires
+close-stream-requires c κs = (c .before .before .before .before .before .before .before .before .pre .0, sound-lent (now (c .before .before .before .before .before .before .before .before .args .img)) (c .before .before .before .before .before .before .before .before .pre .1), c .before .before .before .before .before .before .before .before .pre .2)
+
+message-requires : tie.Need-message-requires
+message-requires c κs = (c .before .before .before .before .before .before .before .before .pre .0, sound-lent (now (c .before .before .before .before .before .before .before .before .args .img)) (c .before .before .before .before .before .before .before .before .pre .1), c .before .before .before .before .before .before .before .before .pre .2)
+
+call-arrives-requires : tie.Need-call-arrives-requires
+call-arrives-requires c κs = (c .before .before .before .before .before .before .before .before .before .pre .0, sound-lent (now (c .before .before .before .before .before .before .before .before .before .args .img)) (c .before .before .before .before .before .before .before .before .before .pre .1), c .before .before .before .before .before .before .before .before .before .pre .2, rw (c .part-at2 .ensures) (part-length (now (c .before .before .before .before .before .before .before .before .before .args .r)) 5 14 (calls-long (now (c .before .before .before .before .before .before .before .before .before .args .r)) _ _ (c .before .before .before .before .before .before .before .before .before .pre .3 ∙ c .before .before .before .before .q4 .given .1))), granted-few (tableOf (now (c .before .before .before .before .before .before .before .before .before .args .img))) (parts (now (c .before .before .before .before .before .before .before .before .before .args .img)) (c .before .before .before .before .before .before .before .before .before .pre .1) .1))
+
+peer-accepted-requires : tie.Need-peer-accepted-requires
+peer-accepted-requires c κs = (c .before .before .before .before .before .before .before .before .before .pre .0, sound-lent (now (c .before .before .before .before .before .before .before .before .before .args .img)) (c .before .before .before .before .before .before .before .before .before .pre .1), c .before .before .before .before .before .before .before .before .before .pre .2, rw (c .part-at3 .ensures) (part-most (now (c .before .before .before .before .before .before .before .before .before .args .r)) 2 7))
+
+peer-gone-requires : tie.Need-peer-gone-requires
+peer-gone-requires c κs = (c .before .before .before .before .before .before .before .before .pre .0, sound-lent (now (c .before .before .before .before .before .before .before .before .args .img)) (c .before .before .before .before .before .before .before .before .pre .1), c .before .before .before .before .before .before .before .before .pre .2)
+
+call-withdrawn-requires : tie.Need-call-withdrawn-requires
+call-withdrawn-requires c κs = (c .before .before .before .before .before .before .before .before .pre .0, sound-lent (now (c .before .before .before .before .before .before .before .before .args .img)) (c .before .before .before .before .before .before .before .before .pre .1), c .before .before .before .before .before .before .before .before .pre .2)
+
+peer-reset-requires : tie.Need-peer-reset-requires
+peer-reset-requires c κs = (c .before .before .before .before .before .before .before .before .pre .0, sound-lent (now (c .before .before .before .before .before .before .before .before .args .img)) (c .before .before .before .before .before .before .before .before .pre .1), c .before .before .before .before .before .before .before .before .pre .2)
+
+reset-confirmed-requires : tie.Need-reset-confirmed-requires
+reset-confirmed-requires c κs = (c .before .before .before .before .before .before .before .before .pre .0, sound-lent (now (c .before .before .before .before .before .before .before .before .args .img)) (c .before .before .before .before .before .before .before .before .pre .1), c .before .before .before .before .before .before .before .before .pre .2)
+
+returns : tie.Need-returns
+returns c = rw (c .before .enum-told .given .1) (leaves-refused (now (c .before .before .before .before .before .before .args .img)) (now (c .before .before .before .before .before .before .args .room)) (tableOf (now (c .before .before .before .before .before .before .args .img))) 10 _ (omega arith) (c .refused .ensures))
+
+returns-2 : tie.Need-returns-2
+returns-2 c = rw (c .before .enum-told2 .given .1) (leaves-refused (now (c .before .before .before .before .before .before .args .img)) (now (c .before .before .before .before .before .before .args .room)) (tableOf (now (c .before .before .before .before .before .before .args .img))) 10 _ (omega arith) (c .refused2 .ensures))
+
+returns-3 : tie.Need-returns-3
+returns-3 c = rw (c .before .before .before .before .before .before .q .given .1) (c .before .before .add-ppa .ensures (now (c .before .before .before .before .before .before .before .before .before .before .before .args .room)) ∙ ap (λ (m : List ℕ). leaving (now (c .before .before .before .before .before .before .before .before .before .before .before .args .img)) (now (c .before .before .before .before .before .before .before .before .before .before .before .args .room)) (addsPpa (tableOf (now (c .before .before .before .before .before .before .before .before .before .before .before .args .img))) (c .before .before .before .before .before .before .q .given .0 .0) m)) (c .before .before .before .part-at .ensures))
+
+returns-4 : tie.Need-returns-4
+returns-4 c = rw (c .before .before .before .before .enum-told3 .given .1) (c .before .before .open-stream .ensures (now (c .before .before .before .before .before .before .before .before .before .args .room)))
+
+returns-5 : tie.Need-returns-5
+returns-5 c = rw (c .before .before .before .before .before .before .before .before .q2 .given .1) (c .before .before .before .before .close-stream .ensures)
+
+returns-6 : tie.Need-returns-6
+returns-6 c = rw (c .before .before .before .before .before .before .before .before .q3 .given .1) (c .before .before .before .before .message .ensures)
+
+returns-7 : tie.Need-returns-7
+returns-7 c =
+    let r = now (c .before .before .before .before .before .before .before .before .before .before .before .before .before .before .args .r) in
+    let h = calls-long r _ _ (c .before .before .before .before .before .before .before .before .before .before .before .before .before .before .pre .3 ∙ c .before .before .before .before .before .before .before .before .before .q4 .given .1) in
+    let e = c .before .before .before .before .before .part-at2 .ensures in
+    let called = ap (take 7) e ∙ first-seven r h in
+    let calling = ap (drop 7) e ∙ other-seven r h in
+    rw (c .before .before .before .before .before .before .before .before .before .q4 .given .1) (c .before .before .before .before .call-arrives .ensures ∙ (λ d. leaving (now (c .before .before .before .before .before .before .before .before .before .before .before .before .before .before .args .img)) (now (c .before .before .before .before .before .before .before .before .before .before .before .before .before .before .args .room)) (callArrives (tableOf (now (c .before .before .before .before .before .before .before .before .before .before .before .before .before .before .args .img))) (c .before .before .before .before .before .before .before .before .before .q4 .given .0 .0) (c .before .before .before .before .before .before .before .before .before .q4 .given .0 .1 .0) (called d) (calling d))))
+
+returns-8 : tie.Need-returns-8
+returns-8 c = rw (c .before .before .before .before .before .before .before .before .before .q5 .given .1) (c .before .before .before .before .peer-accepted .ensures ∙ ap (λ (m : List ℕ). leaving (now (c .before .before .before .before .before .before .before .before .before .before .before .before .before .before .args .img)) (now (c .before .before .before .before .before .before .before .before .before .before .before .before .before .before .args .room)) (ofOpen (tableOf (now (c .before .before .before .before .before .before .before .before .before .before .before .before .before .before .args .img))) (c .before .before .before .before .before .before .before .before .before .q5 .given .0 .0) (peerAccepted (tableOf (now (c .before .before .before .before .before .before .before .before .before .before .before .before .before .before .args .img))) (c .before .before .before .before .before .before .before .before .before .q5 .given .0 .0) m))) (c .before .before .before .before .before .part-at3 .ensures))
+
+returns-9 : tie.Need-returns-9
+returns-9 c = rw (c .before .before .before .before .before .before .before .before .q6 .given .1) (c .before .before .before .before .peer-gone .ensures)
+
+returns-10 : tie.Need-returns-10
+returns-10 c = rw (c .before .before .before .before .before .before .before .before .q7 .given .1) (c .before .before .before .before .call-withdrawn .ensures)
+
+returns-11 : tie.Need-returns-11
+returns-11 c = rw (c .before .before .before .before .before .before .before .before .q8 .given .1) (c .before .before .before .before .peer-reset .ensures)
+
+returns-12 : tie.Need-returns-12
+returns-12 c = rw (c .before .before .before .before .before .before .before .before .q9 .given .1) (c .before .before .before .before .reset-confirmed .ensures)
+
+pub serve-spec : {M : Type 1} → statement M
+serve-spec =
+    tie.close
+    (tie.spec
+    (λ c. search needs)
+    (λ c κs. search needs)
+    (λ c. search needs)
+    (λ c κs. search needs)
+    (λ c. search needs)
+    (λ c κs. search needs)
+    add-ppa-requires
+    (λ c. search needs)
+    open-stream-requires
+    (λ c. search needs)
+    close-stream-requires
+    (λ c. search needs)
+    message-requires
+    (λ c. search needs)
+    (λ c κs. search needs)
+    call-arrives-requires
+    (λ c. search needs)
+    (λ c κs. search needs)
+    peer-accepted-requires
+    (λ c. search needs)
+    peer-gone-requires
+    (λ c. search needs)
+    call-withdrawn-requires
+    (λ c. search needs)
+    peer-reset-requires
+    (λ c. search needs)
+    reset-confirmed-requires
+    returns
+    returns-2
+    (λ c. search needs)
+    returns-3
+    (λ c. search needs)
+    returns-4
+    (λ c. search needs)
+    (λ c. search needs)
+    returns-5
+    (λ c. search needs)
+    (λ c. search needs)
+    returns-6
+    (λ c. search needs)
+    (λ c. search needs)
+    returns-7
+    (λ c. search needs)
+    (λ c. search needs)
+    returns-8
+    (λ c. search needs)
+    (λ c. search needs)
+    returns-9
+    (λ c. search needs)
+    (λ c. search needs)
+    returns-10
+    (λ c. search needs)
+    (λ c. search needs)
+    returns-11
+    (λ c. search needs)
+    (λ c. search needs)
+    returns-12)

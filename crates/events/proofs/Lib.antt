@@ -1,0 +1,2 @@
+-- Laws of events that callers cite.
+pub mod Laws

@@ -1,0 +1,70 @@
+use Prim.Native.Nat.{ℕ}
+use native.Mathlib.Omega.{arith}
+use mathlib.Core.Path.{sym, ap, _∙_}
+use mathlib.Core.Bool.{not}
+use denote.Ref.{now}
+use lib.ListN.{take, drop}
+use lib.Dec.{ltb}
+use borrow.Author.Tests.{lt-ltb, le-ltb}
+use Rattle.paper.specs.Saps.{listener, isListenedFor}
+use Rattle.paper.specs.Events.{heardBy, callArrives}
+use Rattle.image.specs.Layout.{tableOf}
+use Rattle.outcomes.specs.Leaving.{leaving}
+use Rattle.outcomes.proofs.Laws.{where-true, where-false, leaves-refused}
+use borrow.Author.Needs.{needs}
+use Rattle.events.proofs.call_arrives.Statement.{statement}
+use Rattle.events.proofs.call_arrives.Tie as tie
+
+returns : tie.Need-returns
+unfolding callArrives
+returns c = where-true _ _ _ _ (ap not (sym (c .before .before .knows .ensures)) ∙ c .before .if1 .taken) (leaves-refused _ _ _ 7 _ (omega arith) (c .refused .ensures))
+
+returns-2 : tie.Need-returns-2
+unfolding callArrives
+returns-2 c = where-false _ _ _ _ (ap not (sym (c .before .before .before .before .before .knows .ensures)) ∙ c .before .before .before .before .if1 .left) (where-true _ _ _ _ (ap not (sym (c .before .before .is-called .ensures)) ∙ c .before .if2 .taken) (leaves-refused _ _ _ 7 _ (omega arith) (c .refused2 .ensures)))
+
+returns-3 : tie.Need-returns-3
+unfolding callArrives isListenedFor
+returns-3 c =
+    let a = c .before .before .before .before .before .before .before .before .before .before .before .before .before .before .args in
+    where-false _ _ _ _ (ap not (sym (c .before .before .before .before .before .before .before .before .before .knows .ensures)) ∙ c .before .before .before .before .before .before .before .before .if1 .left)
+    (where-false _ _ _ _ (ap not (sym (c .before .before .before .before .before .before .is-called .ensures)) ∙ c .before .before .before .before .before .if2 .left)
+    (where-true _ _ _ _ (ap (λ (j : ℕ). not (ltb j 16)) (sym (c .before .before .listener .ensures ∙ ap (listener (tableOf (now (a .img))) (a .p)) (c .before .before .before .wide .ensures .0))) ∙ ap not (le-ltb _ _ (c .before .if3 .taken)))
+    (leaves-refused _ _ _ 7 _ (omega arith) (c .refused3 .ensures))))
+
+heard-by-requires : tie.Need-heard-by-requires
+heard-by-requires c κs = (search needs, search needs, search needs, search needs, search needs, c .before .before .before .before .before .before .before .before .before .before .before .before .before .before .before .pre .4 _)
+
+returns-4 : tie.Need-returns-4
+unfolding callArrives isListenedFor
+returns-4 c =
+    let a = c .before .before .before .before .before .before .before .before .before .before .before .before .before .before .before .before .before .before .before .before .args in
+    let e = c .before .before .before .before .before .before .before .before .listener .ensures ∙ ap (listener (tableOf (now (a .img))) (a .p)) (c .before .before .before .before .before .before .before .before .before .wide .ensures .0) in
+    where-false _ _ _ _ (ap not (sym (c .before .before .before .before .before .before .before .before .before .before .before .before .before .before .before .knows .ensures)) ∙ c .before .before .before .before .before .before .before .before .before .before .before .before .before .before .if1 .left)
+    (where-false _ _ _ _ (ap not (sym (c .before .before .before .before .before .before .before .before .before .before .before .before .is-called .ensures)) ∙ c .before .before .before .before .before .before .before .before .before .before .before .if2 .left)
+    (where-false _ _ _ _ (ap (λ (j : ℕ). not (ltb j 16)) (sym e) ∙ ap not (lt-ltb _ _ (c .before .before .before .before .before .before .before .if3 .left)))
+    (c .before .before .before .before .heard-by .ensures
+    ∙ ap (λ (j : ℕ). leaving (now (a .img)) (now (a .room)) (heardBy (tableOf (now (a .img))) j (take 7 (now (a .addresses))) (drop 7 (now (a .addresses))))) e)))
+
+pub call-arrives-spec : {M : Type 1} → statement M
+call-arrives-spec =
+    tie.close
+    (tie.spec
+    (λ c κs. search needs)
+    (λ c κs. search needs)
+    (λ c. search needs)
+    returns
+    (λ c κs. search needs)
+    (λ c κs. search needs)
+    (λ c. search needs)
+    returns-2
+    (λ c κs. search needs)
+    (λ c κs. search needs)
+    (λ c κs. search needs)
+    (λ c. search needs)
+    returns-3
+    (λ c. search needs)
+    heard-by-requires
+    (λ c. search needs)
+    (λ c. search needs)
+    returns-4)

@@ -1,0 +1,55 @@
+use native.Mathlib.Omega.{arith}
+use mathlib.Core.Path.{sym, ap, _∙_}
+use mathlib.Core.Bool.{not}
+use denote.Ref.{now}
+use borrow.Author.Tests.{not-true, not-false}
+use Rattle.paper.specs.Step.{ofOpen}
+use Rattle.paper.specs.Events.{callWithdrawn}
+use Rattle.image.specs.Layout.{tableOf}
+use Rattle.lookup.proofs.Laws.{open-within}
+use Rattle.events.proofs.Laws.{leaves-up}
+use Rattle.outcomes.proofs.Laws.{where-true, where-false, leaves-refused}
+use borrow.Author.Needs.{needs}
+use Rattle.events.proofs.call_withdrawn.Statement.{statement}
+use Rattle.events.proofs.call_withdrawn.Tie as tie
+
+returns : tie.Need-returns
+unfolding ofOpen
+returns c = where-true _ _ _ _ (ap not (sym (c .before .before .is-open .ensures)) ∙ c .before .if1 .taken) (leaves-refused _ _ _ 2 _ (omega arith) (c .refused .ensures))
+
+is-waiting-requires : tie.Need-is-waiting-requires
+is-waiting-requires c κs = (open-within (tableOf (now (c .before .before .before .before .before .before .args .img))) (c .before .before .before .before .before .before .pre .1 .shaped) (c .before .before .before .before .before .before .args .i) (sym (c .before .before .is-open .ensures) ∙ not-false _ (c .before .if1 .left)), search needs, search needs)
+
+returns-2 : tie.Need-returns-2
+unfolding ofOpen callWithdrawn
+returns-2 c = where-false _ _ _ _ (ap not (sym (c .before .before .before .before .before .is-open .ensures)) ∙ c .before .before .before .before .if1 .left) (where-false _ _ _ _ (sym (c .before .before .is-waiting .ensures) ∙ not-true _ (c .before .if2 .taken)) (leaves-refused _ _ _ 6 _ (omega arith) (c .refused2 .ensures)))
+
+lose-call-requires : tie.Need-lose-call-requires
+lose-call-requires c κs = (open-within (tableOf (now (c .before .before .before .before .before .before .before .before .before .before .before .before .before .before .args .img))) (c .before .before .before .before .before .before .before .before .before .before .before .before .before .before .pre .1 .shaped) (c .before .before .before .before .before .before .before .before .before .before .before .before .before .before .args .i) (sym (c .before .before .before .before .before .before .before .before .before .before .is-open .ensures) ∙ not-false _ (c .before .before .before .before .before .before .before .before .before .if1 .left)), search needs, search needs)
+
+returns-3 : tie.Need-returns-3
+unfolding ofOpen callWithdrawn
+returns-3 c =
+    where-false _ _ _ _ (ap not (sym (c .before .before .before .before .before .before .before .before .before .before .before .before .before .is-open .ensures)) ∙ c .before .before .before .before .before .before .before .before .before .before .before .before .if1 .left)
+    (where-true _ _ _ _ (sym (c .before .before .before .before .before .before .before .before .before .before .is-waiting .ensures) ∙ not-false _ (c .before .before .before .before .before .before .before .before .before .if2 .left))
+    (leaves-up _ _ _ _ _ _ _ _ _ (omega arith) (c .before .before .before .before .before .before .put-up .ensures .0) (c .before .before .lose-call .ensures) (c .before .before .before .before .before .before .put-up .ensures .1)))
+
+pub call-withdrawn-spec : {M : Type 1} → statement M
+call-withdrawn-spec =
+    tie.close
+    (tie.spec
+    (λ c κs. search needs)
+    (λ c κs. search needs)
+    (λ c. search needs)
+    returns
+    is-waiting-requires
+    (λ c κs. search needs)
+    (λ c. search needs)
+    returns-2
+    (λ c. search needs)
+    (λ c κs. search needs)
+    lose-call-requires
+    (λ c. search needs)
+    (λ c. search needs)
+    (λ c. search needs)
+    returns-3)

@@ -1,0 +1,11 @@
+use Rattle.image.specs.Layout.{tableOf}
+use borrow.Author.Needs.{needs}
+use Rattle.image.proofs.counter.Statement.{statement}
+use Rattle.image.proofs.counter.Tie as tie
+
+returns : tie.Need-returns
+unfolding tableOf
+returns c = c .number32-at .ensures
+
+pub counter-spec : {M : Type 1} → statement M
+counter-spec = tie.close (tie.spec (λ c κs. search needs) returns)

@@ -1,0 +1,20 @@
+use Rattle.image.specs.Layout.{streamFrom}
+use borrow.Author.Needs.{needs}
+use Rattle.image.proofs.stream_from.Statement.{statement}
+use Rattle.image.proofs.stream_from.Tie as tie
+
+returns : tie.Need-returns
+unfolding streamFrom
+returns c = rw (c .before .before .number32-at .ensures, c .before .before .before .number16-at .ensures, c .before .before .before .before .state-of .ensures)
+
+pub stream-from-spec : {M : Type 1} → statement M
+stream-from-spec =
+    tie.close
+    (tie.spec
+    (λ c. search needs)
+    (λ c κs. search needs)
+    (λ c κs. search needs)
+    (λ c κs. search needs)
+    (λ c. search needs)
+    (λ c. search needs)
+    returns)

@@ -1,0 +1,34 @@
+// The C face: numbers and byte slices only, and nothing asked of the caller. A slice is a pointer and a length.
+ghost use mathlib.Core.Path.{_≡_};
+ghost use Rattle.paper.specs.RecordsIn.{recordSize};
+ghost use Rattle.outcomes.specs.Leaving.{left, callOf};
+ghost use Rattle.kungthevi.specs.Fresh.{made, freshOf};
+
+// Makes a fresh table: 0, or 16 where the length is wrong, and then the bytes stay as they stood.
+#[no_mangle]
+pub extern "C" fn kungthevi_fresh(table: &mut [u8]) -> u32
+    ensures { λ n. ⌜ made n (now (table .exit)) ≡ freshOf (now (table .entry)) ⌝ }
+{
+    if table.len() != 760 {
+        return 16;
+    }
+    image::make_fresh(table);
+    0
+}
+
+// The call: reads the one record at the start of the lent bytes, changes the table, writes its records into the room.
+// Its number: bytes written in bits 0 to 15, the refusal number in 16 to 23, the token of the stream opened in 24 to 31.
+#[no_mangle]
+pub extern "C" fn kungthevi_call(table: &mut [u8], bytes: &[u8], room: &mut [u8]) -> u32
+    ensures { λ n. ⌜ left n (now (table .exit)) (now (room .exit)) ≡ callOf (now (table .entry)) (now (bytes .entry)) (now (room .entry)) ⌝ }
+{
+    engine::call(table, bytes, room)
+}
+
+// How far reading goes on behind the record at the start of the bytes: its size, or 0 where reading ends there.
+#[no_mangle]
+pub extern "C" fn kungthevi_record_size(bytes: &[u8]) -> u32
+    ensures { λ n. ⌜ n ≡ recordSize (now (bytes .entry)) ⌝ }
+{
+    records::record_size(bytes) as u32
+}

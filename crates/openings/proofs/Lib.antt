@@ -1,0 +1,2 @@
+-- Laws of opening and closing that callers may cite.
+pub mod Laws

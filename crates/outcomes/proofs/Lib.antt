@@ -1,0 +1,2 @@
+-- Laws of what a call leaves that its parts' proofs cite.
+pub mod Laws

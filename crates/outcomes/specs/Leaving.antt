@@ -1,0 +1,39 @@
+-- What a call leaves: its number, the lent image and the lent room.
+use Prim.Native.Nat.{ℕ, _+_, _*_}
+use mathlib.Core.Bool.{not}
+use mathlib.Core.List.{List}
+use lib.ListN.{length}
+use lib.Dec.{ltb}
+use Rattle.ledger.specs.Choice.{_⇒_∣_}
+use Rattle.octets.specs.Runs.{over}
+use Rattle.paper.specs.RecordsOut.{allBytes}
+use Rattle.paper.specs.Refusals.{notSound, Outcome}
+use Rattle.paper.specs.Step.{step}
+use Rattle.image.specs.Layout.{tableOf, imageOf, tidy}
+
+pub record Left : Type 0 where
+  pub number : ℕ
+  pub image : List ℕ
+  pub room : List ℕ
+
+abbrev pub left : ℕ → List ℕ → List ℕ → Left
+left n img room = record { number = n; image = img; room = room }
+
+-- A call's number: the bytes written in bits 0 to 15, the refusal number in 16 to 23, the token of the stream just opened
+-- in 24 to 31.
+abbrev pub refusing : ℕ → ℕ
+refusing n = n * 65536
+
+abbrev pub writing : ℕ → ℕ → ℕ
+writing bytes opened = bytes + opened * 16777216
+
+-- A refusal leaves image and room as they stood. Else the image is that of the outcome's table, and its records stand at
+-- the start of the room, whose other bytes stay.
+unfoldable pub leaving : List ℕ → List ℕ → Outcome → Left
+leaving img room o =
+    ltb 0 (o .refusal) ⇒ left (refusing (o .refusal)) img room
+    ∣ left (writing (length (allBytes (o .records))) (o .opened)) (imageOf (o .table)) (over (allBytes (o .records)) room)
+
+-- The call, whole, on the image, the record and the room that it is lent. An image that is not one of a table is not sound.
+unfoldable pub callOf : List ℕ → List ℕ → List ℕ → Left
+callOf img r room = not (tidy img) ⇒ left (refusing notSound) img room ∣ leaving img room (step (tableOf img) r (length room))

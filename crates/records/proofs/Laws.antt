@@ -1,0 +1,72 @@
+-- How long the bytes are from which a record was read: its values all stand within them. Assumes nothing.
+use Prim.Native.Nat.{ℕ, _≤_}
+use native.Mathlib.Omega.{arith}
+use mathlib.Core.Path.{_≡_, refl, subst}
+use mathlib.Core.List.{List}
+use lib.ListN.{length, getD}
+use lib.Dec.{eqb, leb}
+use borrow.Author.Tests.{leb-true, eqb-false}
+use Rattle.ledger.proofs.Tallies.{chosen}
+use Rattle.paper.specs.RecordsIn.{kindOf, sizeOf, recordSize, hasNonzeroPadding, inputAs, inputOf, streamIn, sizeIn}
+use Rattle.paper.specs.declared.Kind.{Kind}
+use Rattle.paper.specs.declared.Kind.the-variants as kind
+use Rattle.paper.specs.declared.Input.{Input}
+use Rattle.paper.specs.declared.Input.the-variants as input
+use Rattle.paper.specs.declared.PpaNumber.{PpaNumber}
+
+-- A record that has a size is whole.
+pub whole : (r : List ℕ) → (recordSize r ≡ 0 → ⊥) → sizeOf (kindOf (getD r 0 0)) ≤ length r
+unfolding recordSize
+whole r =
+    let size = sizeOf (kindOf (getD r 0 0)) in
+    chosen (λ (n : ℕ). (n ≡ 0 → ⊥) → size ≤ length r) (leb size (length r)) size 0 (λ e h. leb-true _ _ e) (λ e h. absurd (h refl))
+
+-- The least size of a record with these values.
+abbrev pub leastSize : Input → ℕ
+leastSize input.Unreadable = 0
+leastSize input.Padded = sizeOf kind.Message
+leastSize (input.AddPpa p) = sizeOf kind.AddPpa
+leastSize input.Open = sizeOf kind.Open
+leastSize (input.Close i) = sizeOf kind.Close
+leastSize (input.Message i l) = sizeOf kind.Message
+leastSize (input.CallArrives p sap) = sizeOf kind.CallArrives
+leastSize (input.PeerAccepted i) = sizeOf kind.PeerAccepted
+leastSize (input.PeerGone i reason) = sizeOf kind.PeerGone
+leastSize (input.CallWithdrawn i n reason) = sizeOf kind.CallWithdrawn
+leastSize (input.PeerReset i reason) = sizeOf kind.PeerReset
+leastSize (input.ResetConfirmed i) = sizeOf kind.ResetConfirmed
+
+size-as : (k : Kind) (r : List ℕ) → leastSize (inputAs k r) ≡ sizeOf k
+size-as kind.AddPpa r = refl
+size-as kind.Open r = refl
+size-as kind.Close r = refl
+size-as kind.Message r =
+    chosen (λ (q : Input). leastSize q ≡ sizeOf kind.Message) (hasNonzeroPadding r) input.Padded (input.Message (streamIn r) (sizeIn r)) (λ e. refl) (λ e. refl)
+size-as kind.CallArrives r = refl
+size-as kind.PeerAccepted r = refl
+size-as kind.PeerGone r = refl
+size-as kind.CallWithdrawn r = refl
+size-as kind.PeerReset r = refl
+size-as kind.ResetConfirmed r = refl
+size-as kind.Unknown r = refl
+
+-- What was read is no longer than the bytes.
+pub read-long : (r : List ℕ) → leastSize (inputOf r) ≤ length r
+unfolding inputOf
+read-long r =
+    let k = kindOf (getD r 0 0) in
+    chosen (λ (q : Input). leastSize q ≤ length r) (eqb (recordSize r) 0) input.Unreadable (inputAs k r)
+    (λ e. omega arith)
+    (λ e. rw (size-as k r) (whole r (eqb-false _ _ e)))
+
+pub adds-long : (r : List ℕ) (p : PpaNumber) → inputOf r ≡ input.AddPpa p → 11 ≤ length r
+adds-long r p e = subst (λ (q : Input). leastSize q ≤ length r) e (read-long r)
+
+pub calls-long : (r : List ℕ) (p : PpaNumber) (sap : ℕ) → inputOf r ≡ input.CallArrives p sap → 19 ≤ length r
+calls-long r p sap e = subst (λ (q : Input). leastSize q ≤ length r) e (read-long r)
+
+pub accepts-long : (r : List ℕ) (i : ℕ) → inputOf r ≡ input.PeerAccepted i → 9 ≤ length r
+accepts-long r i e = subst (λ (q : Input). leastSize q ≤ length r) e (read-long r)
+
+pub message-long : (r : List ℕ) (i l : ℕ) → inputOf r ≡ input.Message i l → 99 ≤ length r
+message-long r i l e = subst (λ (q : Input). leastSize q ≤ length r) e (read-long r)

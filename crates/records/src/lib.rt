@@ -1,0 +1,122 @@
+// Records in, from bytes to values.
+ghost use mathlib.Core.Path.{_≡_};
+ghost use Prim.Native.Nat.{_≤_};
+ghost use lib.ListN.{length};
+ghost use Rattle.paper.specs.RecordsIn.{kindOf, sizeOf, recordSize, hasNonzeroPadding, inputAs, inputOf};
+ghost use Rattle.paper.specs.declared.Kind.the-variants as kind;
+use paper::Correlation;
+use paper::Input;
+use paper::Kind;
+use paper::PpaNumber;
+
+// The letters.
+pub fn kind_of(b: u8) -> Kind
+    ensures { λ r. ⌜ r ≡ kindOf b ⌝ }
+{
+    match b {
+        b'G' => Kind::AddPpa,
+        b'O' => Kind::Open,
+        b'X' => Kind::Close,
+        b'P' => Kind::Message,
+        b'C' => Kind::Message,
+        b'I' => Kind::CallArrives,
+        b'A' => Kind::PeerAccepted,
+        b'D' => Kind::PeerGone,
+        b'W' => Kind::CallWithdrawn,
+        b'R' => Kind::PeerReset,
+        b'S' => Kind::ResetConfirmed,
+        _ => Kind::Unknown,
+    }
+}
+
+// The kind's byte and the body.
+pub fn size_of(k: Kind) -> usize
+    ensures { λ r. ⌜ r ≡ sizeOf k ⌝ }
+{
+    match k {
+        Kind::AddPpa => 11,
+        Kind::Open => 1,
+        Kind::Close => 2,
+        Kind::Message => 99,
+        Kind::CallArrives => 19,
+        Kind::PeerAccepted => 9,
+        Kind::PeerGone => 6,
+        Kind::CallWithdrawn => 10,
+        Kind::PeerReset => 6,
+        Kind::ResetConfirmed => 2,
+        Kind::Unknown => 0,
+    }
+}
+
+// The size of the record at the start of the bytes, or 0 where its kind is unknown or its body is cut.
+pub fn record_size(r: &[u8]) -> usize
+    ensures { λ n. ⌜ n ≡ recordSize (now (r .entry)) ⌝ }
+{
+    let size = size_of(kind_of(octets::byte_at(r, 0)));
+    if size <= r.len() {
+        return size;
+    }
+    0
+}
+
+// A byte of the block past L is not zero. With L over 96 there are none.
+pub fn has_nonzero_padding(r: &[u8]) -> bool
+    requires { ⌜ 99 ≤ length (now r) ⌝ }
+    ensures { λ q. ⌜ q ≡ hasNonzeroPadding (now (r .entry)) ⌝ }
+{
+    let l = octets::byte_at(r, 2) as usize;
+    if 96 < l {
+        return false;
+    }
+    let past = 3 + l;
+    !octets::is_zero(&r[past..99])
+}
+
+// A message, unless its padding is not zero.
+fn message_in(r: &[u8]) -> Input
+    requires { ⌜ 99 ≤ length (now r) ⌝ }
+    ensures { λ q. ⌜ q ≡ inputAs kind.Message (now (r .entry)) ⌝ }
+{
+    if has_nonzero_padding(r) {
+        return Input::Padded;
+    }
+    Input::Message(octets::byte_at(r, 1), octets::byte_at(r, 2))
+}
+
+// The values of a whole record, by its kind.
+fn input_as(k: Kind, r: &[u8]) -> Input
+    requires { ⌜ sizeOf k ≤ length (now r) ⌝ }
+    ensures { λ q. ⌜ q ≡ inputAs k (now (r .entry)) ⌝ }
+{
+    let stream = octets::byte_at(r, 1);
+    match k {
+        Kind::AddPpa => Input::AddPpa(PpaNumber(octets::number32_at(r, 1))),
+        Kind::Open => Input::Open,
+        Kind::Close => Input::Close(stream),
+        Kind::Message => message_in(r),
+        Kind::CallArrives => Input::CallArrives(
+            PpaNumber(octets::number32_at(r, 1)),
+            octets::byte_at(r, 11),
+        ),
+        Kind::PeerAccepted => Input::PeerAccepted(stream),
+        Kind::PeerGone => Input::PeerGone(stream, octets::number32_at(r, 2)),
+        Kind::CallWithdrawn => Input::CallWithdrawn(
+            stream,
+            Correlation(octets::number32_at(r, 2)),
+            octets::number32_at(r, 6),
+        ),
+        Kind::PeerReset => Input::PeerReset(stream, octets::number32_at(r, 2)),
+        Kind::ResetConfirmed => Input::ResetConfirmed(stream),
+        Kind::Unknown => Input::Unreadable,
+    }
+}
+
+// A call reads the one record at the start of its lent bytes.
+pub fn input_of(r: &[u8]) -> Input
+    ensures { λ q. ⌜ q ≡ inputOf (now (r .entry)) ⌝ }
+{
+    if record_size(r) == 0 {
+        return Input::Unreadable;
+    }
+    input_as(kind_of(octets::byte_at(r, 0)), r)
+}

@@ -1,0 +1,257 @@
+// The records out, each written at the start of a lent room.
+ghost use mathlib.Core.Path.{_≡_};
+ghost use mathlib.Core.Bool.{true};
+ghost use mathlib.Core.List.{[], _∷_, _++_};
+ghost use Prim.Native.Nat.{_+_, _*_, _≤_};
+ghost use lib.ListN.{length};
+ghost use Rattle.ledger.specs.Choice.{pick};
+ghost use Rattle.octets.specs.Runs.{over};
+ghost use Rattle.octets.specs.Blocks.{flat, pad};
+ghost use Rattle.paper.specs.Base.{isBound};
+ghost use Rattle.paper.specs.Replies.{addressOf, sapLength, infoFields, infoTail};
+ghost use Rattle.paper.specs.RecordsOut.{order, up, bytesOf, allBytes, flushIf, messageBytes};
+use paper::Correlation;
+use paper::LineOrder;
+use paper::Reply;
+use paper::Stream;
+
+// ---- orders to the line, and the flush
+
+// A letter and a stream: how each of these records starts.
+fn put_start(room: &mut [u8], letter: u8, s: u8) -> usize
+    requires { ⌜ 2 ≤ length (now room) ⌝ }
+    ensures { λ n. ⌜ (n ≡ 2) × (now (room .exit) ≡ over (letter ∷ s ∷ []) (now (room .entry))) ⌝ }
+{
+    octets::put_bytes(room, 0, &[letter, s]);
+    2
+}
+
+// a: carrying stream, correlation.
+fn put_accept(room: &mut [u8], s: u8, c: Correlation) -> usize
+    requires { ⌜ 6 ≤ length (now room) ⌝ }
+    ensures { λ n. ⌜ (n ≡ 6) × (now (room .exit) ≡ over (bytesOf (order (LineOrder.Accept s c) [])) (now (room .entry))) ⌝ }
+{
+    let at = put_start(room, b'a', s);
+    octets::put_number32(room, at, c.0);
+    6
+}
+
+// d: stream, correlation, reason.
+fn put_disconnect(room: &mut [u8], s: u8, c: Correlation, reason: u32) -> usize
+    requires { ⌜ 10 ≤ length (now room) ⌝ }
+    ensures { λ n. ⌜ (n ≡ 10) × (now (room .exit) ≡ over (bytesOf (order (LineOrder.Disconnect s c reason) [])) (now (room .entry))) ⌝ }
+{
+    let at = put_start(room, b'd', s);
+    octets::put_number32(room, at, c.0);
+    octets::put_number32(room, at + 4, reason);
+    10
+}
+
+// An order that carries no address.
+pub fn put_order(room: &mut [u8], o: LineOrder) -> usize
+    requires { ⌜ 10 ≤ length (now room) ⌝ }
+    ensures { λ n. ⌜ (n ≡ length (bytesOf (order o []))) × (n ≤ 10) × (now (room .exit) ≡ over (bytesOf (order o [])) (now (room .entry))) ⌝ }
+{
+    match o {
+        LineOrder::Connect(s) => put_start(room, b'c', s),
+        LineOrder::Accept(s, c) => put_accept(room, s, c),
+        LineOrder::Disconnect(s, c, reason) => put_disconnect(room, s, c, reason),
+        LineOrder::Reset(s) => put_start(room, b'r', s),
+        LineOrder::ResetAnswer(s) => put_start(room, b's', s),
+    }
+}
+
+// c: stream, called address.
+pub fn put_connect(room: &mut [u8], s: u8, called: &[u8]) -> usize
+    requires { ⌜ (length (now called) ≤ 7) × (9 ≤ length (now room)) ⌝ }
+    ensures { λ n. ⌜ (n ≡ length (bytesOf (order (LineOrder.Connect s) (now (called .entry))))) × (n ≤ 9) × (now (room .exit) ≡ over (bytesOf (order (LineOrder.Connect s) (now (called .entry)))) (now (room .entry))) ⌝ }
+{
+    let at = put_start(room, b'c', s);
+    octets::put_bytes(room, at, called);
+    at + called.len()
+}
+
+// F: stream; nothing where no flush is due.
+pub fn put_flush_if(room: &mut [u8], on: bool, s: u8) -> usize
+    requires { ⌜ 2 ≤ length (now room) ⌝ }
+    ensures { λ n. ⌜ (n ≡ length (allBytes (flushIf on s))) × (n ≤ 2) × (now (room .exit) ≡ over (allBytes (flushIf on s)) (now (room .entry))) ⌝ }
+{
+    if on {
+        return put_start(room, b'F', s);
+    }
+    0
+}
+
+// ---- messages up
+
+// P or C: stream, length L, the block of 96 bytes, zero past L.
+fn put_message(room: &mut [u8], letter: u8, s: u8, fields: &[u32], tail: &[u8]) -> usize
+    requires { ⌜ (length (now fields) * 4 + length (now tail) ≤ 96) × (99 ≤ length (now room)) ⌝ }
+    ensures { λ n. ⌜ (n ≡ 99) × (now (room .exit) ≡ over ((letter ∷ s ∷ length (flat (now (fields .entry)) ++ now (tail .entry)) ∷ []) ++ pad (flat (now (fields .entry)) ++ now (tail .entry))) (now (room .entry))) ⌝ }
+{
+    let size = fields.len() * 4 + tail.len();
+    octets::put_bytes(room, 0, &[letter, s, size as u8]);
+    octets::put_bytes(room, 3, &octets::block_with(fields, tail));
+    99
+}
+
+// A stream is bound from state 6 on.
+fn is_bound(q: Stream) -> bool
+    ensures { λ r. ⌜ r ≡ isBound q ⌝ }
+{
+    let state = q.state;
+    6 <= paper::number_of(state)
+}
+
+// 1 byte of SAP or 2 of Ethernet type.
+fn sap_length(sap: u16) -> u32
+    ensures { λ r. ⌜ (r ≡ sapLength sap) × (1 ≤ r) × (r ≤ 2) ⌝ }
+{
+    if sap < 256 {
+        return 1;
+    }
+    2
+}
+
+// INFO_ACK with the five fields that differ from stream to stream.
+fn put_info_fields(
+    room: &mut [u8],
+    s: u8,
+    state: u8,
+    address: u32,
+    sap: u32,
+    mode: u8,
+    offset: u32,
+    tail: &[u8],
+) -> usize
+    requires { ⌜ (address ≤ 8) × (length (now tail) ≤ 14) × (99 ≤ length (now room)) ⌝ }
+    ensures { λ n. ⌜ (n ≡ 99) × (now (room .exit) ≡ over (messageBytes true s (flat (0x03 ∷ infoFields state address sap mode offset) ++ now (tail .entry))) (now (room .entry))) ⌝ }
+{
+    let q = octets::wide(state);
+    let m = octets::wide(mode);
+    let broadcast = 76 + address;
+    let fields = [
+        0x03,
+        1497,
+        0,
+        address,
+        0,
+        0,
+        q,
+        sap,
+        m,
+        0,
+        0,
+        0,
+        0,
+        0x0501,
+        offset,
+        2,
+        6,
+        broadcast,
+        0,
+    ];
+    put_message(room, b'C', s, &fields, tail)
+}
+
+// Unbound: address length, SAP length and address offset 0, mode 3. Bound: address offset 76, the SAP length is minus 1
+// or minus 2 in two's complement, the bound mode.
+fn put_info(room: &mut [u8], s: u8, q: Stream, tail: &[u8]) -> usize
+    requires { ⌜ (length (now tail) ≤ 14) × (99 ≤ length (now room)) ⌝ }
+    ensures { λ n. ⌜ (n ≡ 99) × (now (room .exit) ≡ over (bytesOf (up s (Reply.InfoAck q) (now (tail .entry)))) (now (room .entry))) ⌝ }
+{
+    let state = q.state;
+    let number = paper::number_of(state);
+    if !is_bound(q) {
+        return put_info_fields(room, s, number, 0, 0, 3, 0, tail);
+    }
+    let size = sap_length(q.sap);
+    let minus = 0xffffffff - size + 1;
+    put_info_fields(room, s, number, 6 + size, minus, q.mode, 76, tail)
+}
+
+// BIND_ACK: SAP, address length and offset, the count granted, no XID or TEST.
+fn put_bound(room: &mut [u8], s: u8, sap: u16, granted: u8, tail: &[u8]) -> usize
+    requires { ⌜ (length (now tail) ≤ 14) × (99 ≤ length (now room)) ⌝ }
+    ensures { λ n. ⌜ (n ≡ 99) × (now (room .exit) ≡ over (bytesOf (up s (Reply.BindAck sap granted) (now (tail .entry)))) (now (room .entry))) ⌝ }
+{
+    let address = 6 + sap_length(sap);
+    let most = octets::wide(granted);
+    put_message(
+        room,
+        b'C',
+        s,
+        &[0x04, sap as u32, address, 24, most, 0],
+        tail,
+    )
+}
+
+// Codes 0x03 to 0x06 and 0x12 go up as C, the others as P. The originator is always 0x0701.
+pub fn put_up(room: &mut [u8], s: u8, reply: Reply, tail: &[u8]) -> usize
+    requires { ⌜ (length (now tail) ≤ 14) × (99 ≤ length (now room)) ⌝ }
+    ensures { λ n. ⌜ (n ≡ 99) × (now (room .exit) ≡ over (bytesOf (up s reply (now (tail .entry)))) (now (room .entry))) ⌝ }
+{
+    match reply {
+        Reply::InfoAck(q) => put_info(room, s, q, tail),
+        Reply::BindAck(sap, granted) => put_bound(room, s, sap, granted, tail),
+        Reply::ErrorAck(code, error) => put_message(room, b'C', s, &[0x05, code, error, 0], tail),
+        Reply::OkAck(code) => put_message(room, b'C', s, &[0x06, code], tail),
+        Reply::ConnectInd(c) => {
+            put_message(room, b'P', s, &[0x0e, c.0, 7, 36, 7, 43, 0, 0, 0], tail)
+        }
+        Reply::ConnectCon => put_message(room, b'P', s, &[0x10, 7, 24, 0, 0, 0], tail),
+        Reply::TokenAck(k) => put_message(room, b'C', s, &[0x12, k.0], tail),
+        Reply::DisconnectInd(reason, c) => {
+            put_message(room, b'P', s, &[0x14, 0x0701, reason, c.0], tail)
+        }
+        Reply::ResetInd(reason) => put_message(room, b'P', s, &[0x18, 0x0701, reason], tail),
+        Reply::ResetCon => put_message(room, b'P', s, &[0x1a], tail),
+    }
+}
+
+// ---- messages up that end in an address
+
+// An address is the MAC, then 1 byte of SAP or 2 of Ethernet type.
+fn put_address(room: &mut [u8], mac: [u8; 6], sap: u16) -> usize
+    requires { ⌜ 8 ≤ length (now room) ⌝ }
+    ensures { λ n. ⌜ (n ≡ length (addressOf mac sap)) × (n ≤ 8) × (now (room .exit) ≡ over (addressOf mac sap) (now (room .entry))) ⌝ }
+{
+    octets::put_bytes(room, 0, &mac);
+    if sap < 256 {
+        octets::put_bytes(room, 6, &[sap as u8]);
+        return 7;
+    }
+    octets::put_number16(room, 6, sap);
+    8
+}
+
+// The address of a stream, if it is bound.
+fn put_bound_address(room: &mut [u8], q: Stream, mac: [u8; 6]) -> usize
+    requires { ⌜ 8 ≤ length (now room) ⌝ }
+    ensures { λ n. ⌜ (n ≡ length (pick (isBound q) (addressOf mac (q .sap)) [])) × (n ≤ 8) × (now (room .exit) ≡ over (pick (isBound q) (addressOf mac (q .sap)) []) (now (room .entry))) ⌝ }
+{
+    if is_bound(q) {
+        return put_address(room, mac, q.sap);
+    }
+    0
+}
+
+// INFO_ACK: the fields, the address if bound, six bytes of 0xff.
+pub fn put_info_ack(room: &mut [u8], s: u8, q: Stream, mac: [u8; 6]) -> usize
+    requires { ⌜ 99 ≤ length (now room) ⌝ }
+    ensures { λ n. ⌜ (n ≡ 99) × (now (room .exit) ≡ over (bytesOf (up s (Reply.InfoAck q) (infoTail mac q))) (now (room .entry))) ⌝ }
+{
+    let mut tail = [0xffu8; 14];
+    let size = put_bound_address(&mut tail, q, mac) + 6;
+    put_up(room, s, Reply::InfoAck(q), &tail[0..size])
+}
+
+// BIND_ACK: the fields, the address now bound.
+pub fn put_bind_ack(room: &mut [u8], s: u8, mac: [u8; 6], sap: u16, granted: u8) -> usize
+    requires { ⌜ 99 ≤ length (now room) ⌝ }
+    ensures { λ n. ⌜ (n ≡ 99) × (now (room .exit) ≡ over (bytesOf (up s (Reply.BindAck sap granted) (addressOf mac sap))) (now (room .entry))) ⌝ }
+{
+    let mut address = [0u8; 8];
+    let size = put_address(&mut address, mac, sap);
+    put_up(room, s, Reply::BindAck(sap, granted), &address[0..size])
+}

@@ -1,0 +1,2 @@
+-- Laws of rows that this crate's proofs cite.
+mod Laws

@@ -1,0 +1,55 @@
+// Step 4 of the order of errors: which SAPs a bind may name, and what it grants.
+ghost use mathlib.Core.Path.{_≡_};
+ghost use Rattle.ledger.specs.Choice.{either};
+ghost use Rattle.paper.specs.Saps.{isSap, isType, grantOf, asBindAllows};
+use paper::Stream;
+
+// An even number under 256. RFC 1010, to which the manual refers, reserves one of them.
+pub fn is_sap(n: u32) -> bool
+    ensures { λ r. ⌜ r ≡ isSap n ⌝ }
+{
+    if 256 <= n {
+        return false;
+    }
+    n % 2 == 0 && n != 0x06
+}
+
+// An Ethernet type. None is reserved.
+pub fn is_type(n: u32) -> bool
+    ensures { λ r. ⌜ r ≡ isType n ⌝ }
+{
+    0x600 <= n && n <= 0xffff
+}
+
+pub fn is_sap_or_type(n: u32) -> bool
+    ensures { λ r. ⌜ r ≡ either (isSap n) (isType n) ⌝ }
+{
+    is_sap(n) || is_type(n)
+}
+
+// The smaller of the count asked and 8; in mode 2 none.
+pub fn grant_of(mode: u16, most: u32) -> u8
+    ensures { λ r. ⌜ r ≡ grantOf mode most ⌝ }
+{
+    if mode == 2 {
+        return 0;
+    }
+    if most < 8 {
+        return most as u8;
+    }
+    8
+}
+
+// Mode 1 has a SAP, mode 2 a SAP or a type and nothing granted.
+pub fn as_bind_allows(s: Stream) -> bool
+    ensures { λ r. ⌜ r ≡ asBindAllows s ⌝ }
+{
+    let sap = s.sap as u32;
+    if s.mode == 1 {
+        return is_sap(sap) && s.granted <= 8;
+    }
+    if s.mode != 2 {
+        return false;
+    }
+    is_sap_or_type(sap) && s.granted == 0
+}

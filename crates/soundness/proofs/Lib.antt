@@ -1,0 +1,3 @@
+-- Laws of the test of refusal 16, and what a sound image gives to those who are lent it.
+pub mod Laws
+pub mod Slots

@@ -1,0 +1,29 @@
+-- The tests of a stream, in the groups in which they are made.
+use Prim.Native.Nat.{ℕ}
+use mathlib.Core.Bool.{Bool}
+use mathlib.Core.List.{List}
+use lib.Dec.{eqb, ltb, leb}
+use Rattle.ledger.specs.Choice.{pick, both, asks}
+use Rattle.ledger.specs.Tally.{has, allOf}
+use Rattle.paper.specs.Base.{number, isIn, isBound, Slot, Table, ppaNumbers}
+use Rattle.paper.specs.Saps.{asBindAllows}
+use Rattle.paper.specs.Sound.{every, sameAnswer, unbound, soundSlot, isSingle, isAlone}
+use Rattle.paper.specs.declared.Stream.{Stream}
+
+-- ---- an open stream (`openTests`)
+
+-- attached to a PPA of the table except in 0
+unfoldable pub isAttachedRight : List ℕ → Stream → Bool
+isAttachedRight ppas s = pick (isIn 0 s) (eqb (s .ppa .0) 0) (has (s .ppa .0) ppas)
+
+-- bound as BIND allows from 6 on, in mode 1 above 6
+unfoldable pub isBoundRight : Stream → Bool
+isBoundRight s = both (pick (isBound s) (asBindAllows s) (every (unbound s))) (asks (ltb 6 (number s)) (eqb (s .mode) 1))
+
+-- only state 9 has open indications, at least one and at most the granted count
+unfoldable pub isCountRight : Stream → ℕ → Bool
+isCountRight s count = both (sameAnswer (isIn 9 s) (ltb 0 count)) (leb count (s .granted))
+
+-- ---- a stream among the others: sound by itself, its open numbers single, alone in listening
+unfoldable pub isStreamSound : Table → Slot → Bool
+isStreamSound t x = both (soundSlot (ppaNumbers t) x) (both (allOf (isSingle t) (x .waiting)) (isAlone t (x .stream)))
