@@ -5,7 +5,7 @@ use native.Mathlib.Numerals.{add-one}
 use mathlib.Core.Path.{_≡_, refl, sym, ap, ap₂, _∙_}
 use mathlib.Core.Bool.{Bool, true, false}
 use mathlib.Core.List.{List, [], _∷_, _++_, append-assoc, append-nil}
-use lib.ListN.{length, getD, take, drop, set, replicate, length-append, length-drop, length-replicate, replicate-append-replicate, drop-of-length-le}
+use lib.ListN.{length, getD, take, drop, set, replicate, length-append, length-drop, length-replicate, replicate-append-replicate}
 use lib.Seq.{take-at, drop-at, take-all, drop-cons, split-at, length-take-le}
 use lib.Dec.{eqb, ltb, leb·suc-suc}
 use borrow.Author.Tests.{lt-ltb, le-ltb, ltb-false}
@@ -15,14 +15,14 @@ use Rattle.octets.specs.Numbers.{be32At, be32}
 use Rattle.octets.specs.Runs.{part, paste}
 use Rattle.octets.specs.Blocks.{flat}
 use Rattle.octets.proofs.Laws.{paste-join, flat-length}
-use Rattle.paper.specs.Base.{Slot, Table, slot, stream, waiting, closed, withCalls}
+use Rattle.paper.specs.Base.{Slot, Table, slot, stream, waiting, withCalls}
 use Rattle.paper.specs.declared.Stream.{Stream}
-use Rattle.image.specs.Layout.{slotBase, listed, waitingFrom, slotAt, tableOf, padTo, joined, streamBytes, waitingBytes, slotBytes, headerBytes, imageOf}
+use Rattle.image.specs.Layout.{slotBase, listed, waitingFrom, slotAt, tableOf, padTo, streamBytes, waitingBytes, slotBytes, imageOf}
 use Rattle.image.specs.Lent.{Lent}
-use Rattle.image.proofs.Joined.{listed-length, listed-at, joined-at, pad-length, pad-more, part-length, part-add, part-be32}
-use Rattle.image.proofs.Shapes.{stream-length, slots-wide, header-length}
+use Rattle.image.proofs.Joined.{listed-length, listed-at, pad-length, pad-more, part-length, part-add, part-be32}
+use Rattle.image.proofs.Shapes.{stream-length}
 use Rattle.image.proofs.Stored.{store-calls}
-use Rattle.image.proofs.TableBack.{slot-at}
+use Rattle.image.proofs.TableBack.{slot-at, slot-part}
 
 -- ---- in an image
 
@@ -42,12 +42,8 @@ module _ (img : List ℕ) (l : Lent img) (i : ℕ) (b : i < 16) where
       ∙ ap (λ (v : List ℕ). getD v k 0) (sym w)
 
   -- the bytes of a slot
-  slot-part : part img (slotBase i) 42 ≡ slotBytes (slot (tableOf img) i)
-  unfolding imageOf
-  slot-part =
-      let t : Table = tableOf img in
-      ap (λ (r : List ℕ). part r (slotBase i) 42) (sym (l .same) ∙ ap (λ (r : List ℕ). headerBytes t ++ r) (sym (append-nil (joined slotBytes (t .slots)))))
-      ∙ joined-at slotBytes closed 42 (headerBytes t) 88 (t .slots) i (header-length t (l .shaped)) (slots-wide t (l .shaped)) (omega (arith, l .shaped .sixteen)) []
+  slot-bytes : part img (slotBase i) 42 ≡ slotBytes (slot (tableOf img) i)
+  slot-bytes = ap (λ (r : List ℕ). part r (slotBase i) 42) (sym (l .same)) ∙ slot-part (tableOf img) (l .shaped) i b
 
   -- their bytes
   pub numbers-part : length img ≡ 760 → part img (i * 42 + 97) 33 ≡ waitingBytes (waiting (tableOf img) i)
@@ -57,7 +53,7 @@ module _ (img : List ℕ) (l : Lent img) (i : ℕ) (b : i < 16) where
       let p : i * 42 + 97 ≡ slotBase i + 9 = omega arith in
       ap (λ (k : ℕ). part img k 33) p
       ∙ sym (drop-at (part img (slotBase i) 9) (part img (slotBase i + 9) 33) 9 (part-length img (slotBase i) 9 (omega arith)))
-      ∙ ap (drop 9) (sym (part-add img (slotBase i) 9 33) ∙ slot-part)
+      ∙ ap (drop 9) (sym (part-add img (slotBase i) 9 33) ∙ slot-bytes)
       ∙ drop-at s (waitingBytes (waiting t i)) 9 (stream-length (stream t i))
 
   -- a stream and its open numbers are stored
@@ -72,10 +68,6 @@ module _ (img : List ℕ) (l : Lent img) (i : ℕ) (b : i < 16) where
 flat-append : (l m : List ℕ) → flat (l ++ m) ≡ flat l ++ flat m
 flat-append [] m = refl
 flat-append (x ∷ l) m = ap (λ (r : List ℕ). be32 x ++ r) (flat-append l m)
-
--- a run over the whole of a list
-pub paste-whole : (b s : List ℕ) → length b ≤ length s → paste b 0 s ≡ s
-paste-whole b s h = ap (λ (r : List ℕ). s ++ r) (drop-of-length-le b {i = 0 + length s} (omega arith)) ∙ append-nil s
 
 -- count and numbers take 33 bytes
 pub waiting-length : (w : List ℕ) → length w ≤ 8 → length (waitingBytes w) ≡ 33

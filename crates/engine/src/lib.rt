@@ -17,6 +17,12 @@ ghost use Rattle.paper.specs.declared.Request.the-variants as request;
 ghost use Rattle.image.specs.Layout.{tableOf, soundImage};
 ghost use Rattle.image.specs.Lent.{Lent};
 ghost use Rattle.outcomes.specs.Leaving.{left, leaving, callOf};
+use outcomes::LITTLE_ROOM;
+use outcomes::NO_CODE;
+use outcomes::NOT_A_RECORD;
+use outcomes::NOT_OPEN;
+use outcomes::NOT_SOUND;
+use outcomes::OVER_LONG;
 use paper::Asked;
 use paper::ConnectResponse;
 use paper::DisconnectRequest;
@@ -26,19 +32,6 @@ use paper::Request;
 use paper::Row;
 use paper::Rule;
 use paper::Verdict;
-
-// The refusal numbers that are decided here.
-const LITTLE_ROOM: u8 = 1;
-
-const NOT_OPEN: u8 = 2;
-
-const NO_CODE: u8 = 4;
-
-const OVER_LONG: u8 = 5;
-
-const NOT_A_RECORD: u8 = 10;
-
-const NOT_SOUND: u8 = 16;
 
 // Step 6 of the order of errors, with what it asks of the table.
 fn judge_accept(img: &[u8], i: u8, a: ConnectResponse) -> Verdict

@@ -13,24 +13,14 @@ ghost use Rattle.paper.specs.Step.{ofOpen};
 ghost use Rattle.image.specs.Layout.{tableOf};
 ghost use Rattle.image.specs.Lent.{Lent};
 ghost use Rattle.outcomes.specs.Leaving.{left, leaving};
+use outcomes::BUSY;
+use outcomes::NOBODY_THERE;
+use outcomes::NOT_OPEN;
+use outcomes::UNEXPECTED;
 use paper::Correlation;
 use paper::PpaNumber;
 use paper::Reply;
 use paper::State;
-
-// ---- refusal numbers
-
-// stream over 15, or not open
-const NOT_OPEN: u8 = 2;
-
-// A, D, R or S with no row; W whose number is not open on that stream
-const UNEXPECTED: u8 = 6;
-
-// I whose PPA is unknown, whose called MAC isn't that PPA's, or for whose PPA and SAP nobody listens
-const NOBODY_THERE: u8 = 7;
-
-// I whose listener is in a state other than 6 or 9, or has its granted count open
-const BUSY: u8 = 8;
 
 // ---- what events share
 

@@ -113,7 +113,8 @@ module _ (t : Table) (s : Shaped t) where
       ∙ ap ppaFrom (joined-at ppaBytes noPpa 10 first 8 (t .ppas) k refl (ppas-wide t s) h (zeros ++ rest))
       ∙ ppa-back (getD (t .ppas) k noPpa) (s .macs k)
 
-  slot-part : (i : ℕ) → i < 16 → part (imageOf t) (slotBase i) 42 ≡ slotBytes (slot t i)
+  -- the bytes of a slot
+  pub slot-part : (i : ℕ) → i < 16 → part (imageOf t) (slotBase i) 42 ≡ slotBytes (slot t i)
   unfolding imageOf
   slot-part i h =
       ap (λ (r : List ℕ). part (headerBytes t ++ r) (slotBase i) 42) (sym (append-nil (joined slotBytes (t .slots))))

@@ -3,6 +3,7 @@ ghost use mathlib.Core.Path.{_≡_};
 ghost use Rattle.paper.specs.RecordsIn.{recordSize};
 ghost use Rattle.outcomes.specs.Leaving.{left, callOf};
 ghost use Rattle.kungthevi.specs.Fresh.{made, freshOf};
+use outcomes::NOT_SOUND;
 
 // Makes a fresh table: 0, or 16 where the length is wrong, and then the bytes stay as they stood.
 #[no_mangle]
@@ -10,7 +11,7 @@ pub extern "C" fn kungthevi_fresh(table: &mut [u8]) -> u32
     ensures { λ n. ⌜ made n (now (table .exit)) ≡ freshOf (now (table .entry)) ⌝ }
 {
     if table.len() != 760 {
-        return 16;
+        return NOT_SOUND as u32;
     }
     image::make_fresh(table);
     0

@@ -1,4 +1,4 @@
--- The next number is open nowhere: of as many numbers in a row as are open, and two more, one is free. Assumes nothing.
+-- The next number is open nowhere: of as many numbers in a row as are open, and two more, one is free.
 use Prim.Native.Nat.{ℕ, zero, suc, _+_, _-_, _≤_, _<_, _%_, _^_}
 use mathlib.Core.Path.{_≡_, refl, sym, _∙_}
 use mathlib.Core.Bool.{Bool, true, false}

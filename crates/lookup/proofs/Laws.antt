@@ -1,18 +1,16 @@
--- Searches of lists, the PPAs in an image, the open streams of a table. Assumes nothing.
+-- Searches of lists, the PPAs in an image, the open streams of a table.
 use Prim.Native.Nat.{ℕ, zero, suc, _+_, _≤_, _<_}
 use native.Mathlib.Omega.{arith}
 use native.Mathlib.Nat.{zero-add}
 use mathlib.Core.Path.{_≡_, refl, sym, ap, _∙_}
 use mathlib.Core.Bool.{Bool, true, false}
-use mathlib.Core.List.{List, [], _∷_, map, append-nil}
+use mathlib.Core.List.{List, [], _∷_, map}
 use lib.ListN.{length, getD}
 use lib.Dec.{eqb, ltb, leb·suc-suc}
 use borrow.Author.Tests.{eqb-true, eqb-false, eq-eqb, ne-eqb, lt-ltb}
 use Rattle.ledger.specs.Choice.{pick}
 use Rattle.ledger.specs.Tally.{oneIf, occ, has, firstOf}
 use Rattle.ledger.proofs.Tallies.{picked, within}
-use Rattle.octets.specs.Runs.{paste}
-use Rattle.octets.proofs.Laws.{paste-middle}
 use Rattle.paper.specs.Base.{Slot, Table, slot, closed, noPpa}
 use Rattle.image.specs.Layout.{ppaAt, tableOf}
 use Rattle.image.specs.Shape.{Shaped}
@@ -64,10 +62,6 @@ unfolding tableOf
 ppa-place img k h =
     let z : 0 + k ≡ k = omega arith in
     listed-at (ppaAt img) 0 (getD img 3 0) k noPpa (omega (arith, listed-length (ppaAt img) 0 (getD img 3 0))) ∙ ap (ppaAt img) z
-
--- bytes written over as many others
-pub paste-whole : (b s : List ℕ) → length b ≡ length s → paste b 0 s ≡ s
-paste-whole b s e = ap (λ (r : List ℕ). paste r 0 s) (sym (append-nil b)) ∙ paste-middle [] b s [] 0 refl e ∙ append-nil s
 
 -- an open stream is one of the 16
 pub open-within : (t : Table) → Shaped t → (i : ℕ) → slot t i .isOpen ≡ true → i < 16

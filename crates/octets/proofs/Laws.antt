@@ -60,11 +60,6 @@ zero-replicate l h = same-equal l (replicate (length l) 0) (sym (zero-same l) �
     zero-same [] = refl
     zero-same (x ∷ l) = ap (λ (t : Bool). eqb x 0 && t) (zero-same l)
 
--- a run of zeros passes it
-pub replicate-zero : (n : ℕ) → allZero (replicate n 0) ≡ true
-replicate-zero zero = refl
-replicate-zero (suc n) = replicate-zero n
-
 -- two numbers joined by `|` are 0 exactly if both are
 or-zero : (x y : ℕ) → eqb (bitOr x y) 0 ≡ eqb x 0 && eqb y 0
 or-zero zero y = refl
@@ -111,6 +106,10 @@ pub paste-join : (b : List ℕ) (at : ℕ) (s r : List ℕ) → at ≤ length b 
 paste-join b at s r h =
     let n : at + length (s ++ r) ≡ at + length s + length r = omega (arith, length-append s r) in
     rw (take-at (take at b ++ s) (drop (at + length s) b) (at + length s) (paste-front b at s h), paste-rest b at s (length r) h, append-assoc (take at b) s r, n)
+
+-- a run over the whole list
+pub paste-whole : (b s : List ℕ) → length b ≤ length s → paste b 0 s ≡ s
+paste-whole b s h = ap (λ (r : List ℕ). s ++ r) (drop-of-length-le b {i = 0 + length s} (omega arith)) ∙ append-nil s
 
 -- a run over one of its length, between two others
 pub paste-middle : (p old new q : List ℕ) (n : ℕ) → length p ≡ n → length old ≡ length new → paste (p ++ old ++ q) n new ≡ p ++ new ++ q

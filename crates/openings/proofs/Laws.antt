@@ -1,5 +1,5 @@
 -- Laws of opening and closing: the lowest free stream by the count of the free ones, what an opening leaves, the bytes of
--- a run of goodbyes. Assumes nothing.
+-- a run of goodbyes.
 use Prim.Native.Nat.{ℕ, suc, _+_, _*_, _≤_, _<_}
 use native.Mathlib.Omega.{arith}
 use mathlib.Core.Path.{_≡_, refl, sym, ap, _∙_}

@@ -12,16 +12,12 @@ ghost use Rattle.paper.specs.Step.{ofOpen};
 ghost use Rattle.image.specs.Layout.{tableOf};
 ghost use Rattle.image.specs.Lent.{Lent};
 ghost use Rattle.outcomes.specs.Leaving.{left, leaving};
+use outcomes::ALL_OPEN;
+use outcomes::NO_NEW_PPA;
+use outcomes::NOT_OPEN;
 use paper::Correlation;
 use paper::LineOrder;
 use paper::PpaNumber;
-
-// The refusal numbers.
-const NOT_OPEN: u8 = 2;
-
-const ALL_OPEN: u8 = 3;
-
-const NO_NEW_PPA: u8 = 9;
 
 // G adds a PPA: none after any opening, no ninth, none whose number is already there.
 pub fn add_ppa(img: &mut [u8], p: PpaNumber, mac: &[u8]) -> u32

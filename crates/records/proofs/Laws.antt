@@ -1,4 +1,4 @@
--- How long the bytes are from which a record was read: its values all stand within them. Assumes nothing.
+-- How long the bytes are from which a record was read: its values all stand within them.
 use Prim.Native.Nat.{ℕ, _≤_}
 use native.Mathlib.Omega.{arith}
 use mathlib.Core.Path.{_≡_, refl, subst}
@@ -64,9 +64,3 @@ adds-long r p e = subst (λ (q : Input). leastSize q ≤ length r) e (read-long 
 
 pub calls-long : (r : List ℕ) (p : PpaNumber) (sap : ℕ) → inputOf r ≡ input.CallArrives p sap → 19 ≤ length r
 calls-long r p sap e = subst (λ (q : Input). leastSize q ≤ length r) e (read-long r)
-
-pub accepts-long : (r : List ℕ) (i : ℕ) → inputOf r ≡ input.PeerAccepted i → 9 ≤ length r
-accepts-long r i e = subst (λ (q : Input). leastSize q ≤ length r) e (read-long r)
-
-pub message-long : (r : List ℕ) (i l : ℕ) → inputOf r ≡ input.Message i l → 99 ≤ length r
-message-long r i l e = subst (λ (q : Input). leastSize q ≤ length r) e (read-long r)

@@ -1,4 +1,4 @@
--- Laws of the tests: lists of numbers, state numbers, the bounds that a bind's tests give. Assumes nothing.
+-- Laws of the tests: lists of numbers, state numbers, the bounds that a bind's tests give.
 use Prim.Native.Nat.{ℕ, _+_, _<_}
 use mathlib.Core.Path.{_≡_, refl, ap}
 use mathlib.Core.Bool.{Bool, true, false, not}

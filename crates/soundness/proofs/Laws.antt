@@ -1,4 +1,4 @@
--- Tests, and walks over the places of a list: whether each passes a test, a sum over them. Assumes nothing.
+-- Tests, and walks over the places of a list: whether each passes a test, a sum over them.
 use Prim.Native.Nat.{ℕ, zero, suc, _+_, _≤_, _<_}
 use mathlib.Core.Path.{_≡_, refl, sym, ap, _∙_}
 use mathlib.Core.Bool.{Bool, true, false, not}

@@ -1,4 +1,4 @@
--- What the bytes of an image tell of its table: states, PPA numbers, open and closed streams. Assumes nothing.
+-- What the bytes of an image tell of its table: states, PPA numbers, open and closed streams.
 use Prim.Native.Nat.{ℕ, zero, suc, _+_, _*_, _≤_, _<_}
 use mathlib.Core.Path.{_≡_, refl, sym, ap, _∙_}
 use mathlib.Core.Bool.{Bool, true, false, not}

@@ -7,7 +7,8 @@ use borrow.Author.Needs.{needs}
 use denote.Ref.{now}
 use Rattle.paper.specs.Base.{waiting}
 use Rattle.image.specs.Layout.{tableOf, waitingBytes}
-use Rattle.calls.proofs.Laws.{numbers-part, waiting-length, paste-whole}
+use Rattle.calls.proofs.Laws.{numbers-part, waiting-length}
+use Rattle.octets.proofs.Laws.{paste-whole}
 use Rattle.calls.proofs.numbers_of.Statement.{statement}
 use Rattle.calls.proofs.numbers_of.Tie as tie
 

@@ -15,4 +15,4 @@ unfolding freshOf _⇒_∣_
 returns-2 c = rw (eq-eqb _ _ (c .before .before .before .before .if1 .left)) (ap (made 0) (c .before .before .make-fresh .ensures))
 
 pub kungthevi-fresh-spec : {M : Type 1} → statement M
-kungthevi-fresh-spec = tie.close (tie.spec returns (λ c κs. search needs) (λ c. search needs) returns-2)
+kungthevi-fresh-spec = tie.close (tie.spec (λ c. search needs) returns (λ c κs. search needs) (λ c. search needs) returns-2)

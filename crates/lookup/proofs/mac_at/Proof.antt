@@ -1,12 +1,13 @@
 use native.Mathlib.Nat.{add-sub-cancel-left}
 use native.Mathlib.Omega.{arith}
-use mathlib.Core.Path.{sym}
 use denote.Ref.{now}
 use borrow.Author.Needs.{needs}
 use Rattle.octets.specs.Runs.{part}
 use Rattle.image.specs.Layout.{ppaBase, ppaAt, ppaFrom}
 use Rattle.image.proofs.Joined.{part-length}
-use Rattle.lookup.proofs.Laws.{ppa-place, paste-whole}
+use Rattle.lookup.proofs.Laws.{ppa-place}
+use lib.ListN.{replicate}
+use Rattle.octets.proofs.Laws.{paste-whole}
 use Rattle.lookup.proofs.mac_at.Statement.{statement}
 use Rattle.lookup.proofs.mac_at.Tie as tie
 
@@ -18,7 +19,7 @@ returns c =
     let at = ppaBase (a .args .k) in
     let n = part-length img at 10 (omega (arith, a .pre .0, a .pre .1, a .pre .2 .shaped .few)) in
     rw (ppa-place img (a .args .k) (a .pre .0), c .before .put-bytes .ensures, add-sub-cancel-left)
-    (paste-whole _ (part (part img at 10) 4 6) (sym (part-length (part img at 10) 4 6 (omega (arith, n)))))
+    (paste-whole (replicate 6 0) (part (part img at 10) 4 6) (omega (arith, n, part-length (part img at 10) 4 6 (omega (arith, n)))))
 
 pub mac-at-spec : {M : Type 1} → statement M
 mac-at-spec =

@@ -1,0 +1,3 @@
+-- The sentences of the demands, one theorem each.
+pub mod ErrorAck
+pub mod OutState

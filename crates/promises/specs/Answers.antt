@@ -1,0 +1,88 @@
+-- Demand 2's two sentences on answers, in the paper's words: the errors that a call tells, a complete message that we
+-- serve, an accept that offers a stream that isn't idle.
+use Prim.Native.Nat.{ℕ, _≤_}
+use mathlib.Core.Path.{_≡_}
+use mathlib.Core.Bool.{Bool, true, false, not}
+use mathlib.Core.List.{List, [], _∷_, _++_}
+use lib.Dec.{eqb}
+use Rattle.ledger.specs.Choice.{both}
+use Rattle.paper.specs.Base.{isIn, Table, slot}
+use Rattle.paper.specs.Messages.{askedBy}
+use Rattle.paper.specs.RecordsIn.{inputOf, messageIn}
+use Rattle.paper.specs.RecordsOut.{Record, order, flush, up}
+use Rattle.paper.specs.ErrorCodes.{errorOf}
+use Rattle.paper.specs.ErrorOrder.{carrierOf, isWaiting}
+use Rattle.paper.specs.declared.Input.the-variants as input
+use Rattle.paper.specs.declared.Asked.the-variants.{For}
+use Rattle.paper.specs.declared.Reply.{Reply}
+use Rattle.paper.specs.declared.Reply.the-variants as reply
+use Rattle.paper.specs.declared.Request.{Request}
+use Rattle.paper.specs.declared.Request.the-variants as request
+use Rattle.paper.specs.declared.Carrier.{Carrier}
+use Rattle.paper.specs.declared.Carrier.the-variants.{Itself, Other, None}
+use Rattle.paper.specs.declared.Verdict.{Verdict}
+use Rattle.paper.specs.declared.Verdict.the-variants.{Serves, Fails}
+
+-- ---- answered with DL_ERROR_ACK
+
+-- the error that a reply tells: an ERROR_ACK its own, any other none
+abbrev pub errorIn : Reply → List ℕ
+errorIn (reply.InfoAck s) = []
+errorIn (reply.BindAck sap granted) = []
+errorIn (reply.ErrorAck code error) = error ∷ []
+errorIn (reply.OkAck code) = []
+errorIn (reply.ConnectInd n) = []
+errorIn reply.ConnectCon = []
+errorIn (reply.TokenAck k) = []
+errorIn (reply.DisconnectInd reason n) = []
+errorIn (reply.ResetInd reason) = []
+errorIn reply.ResetCon = []
+
+-- the errors that a call's records tell
+abbrev pub errorsIn : List Record → List ℕ
+errorsIn [] = []
+errorsIn (order o called ∷ rs) = errorsIn rs
+errorsIn (flush i ∷ rs) = errorsIn rs
+errorsIn (up i r tail ∷ rs) = errorIn r ++ errorsIn rs
+
+-- a verdict that answers with error e
+abbrev pub gets : ℕ → Verdict → Bool
+gets e (Serves r) = false
+gets e (Fails r) = eqb e (errorOf r)
+
+-- ---- a complete message that we serve
+
+-- Record r is a message that asks stream i of table t for q: of 4 to 96 bytes, of a code that we serve, of that code's
+-- full size, to an open stream, in room enough.
+pub record Complete (t : Table) (r : List ℕ) (room i : ℕ) (q : Request) : Type 0 where
+  pub size : ℕ
+  pub read : inputOf r ≡ input.Message i size
+  pub isOpen : slot t i .isOpen ≡ true
+  pub coded : 4 ≤ size
+  pub whole : size ≤ 96
+  pub roomy : 128 ≤ room
+  pub asks : askedBy (messageIn r size) ≡ For q
+
+-- ---- an accept that offers another stream that isn't idle
+
+-- another stream, not in state 6
+abbrev pub isBusy : Carrier → Bool
+isBusy Itself = false
+isBusy None = false
+isBusy (Other c x) = not (isIn 6 x)
+
+-- With no earlier error in the paper's order: the number is open here (else BADCORR), the QOS length is 0 (else
+-- BADQOSTYPE), and the token is that of an open stream (else BADTOKEN).
+abbrev pub offersBusy : Table → ℕ → Request → Bool
+offersBusy t i request.Info = false
+offersBusy t i request.Token = false
+offersBusy t i (request.Attach p) = false
+offersBusy t i request.Detach = false
+offersBusy t i (request.Bind b) = false
+offersBusy t i request.Unbind = false
+offersBusy t i (request.Connect c) = false
+offersBusy t i (request.ConnectRes a) =
+    both (isWaiting t i (a .correlation)) (both (eqb (a .qos) 0) (isBusy (carrierOf t i (a .token))))
+offersBusy t i (request.Disconnect d) = false
+offersBusy t i request.Reset = false
+offersBusy t i request.ResetRes = false
