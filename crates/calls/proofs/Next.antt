@@ -1,4 +1,4 @@
--- The next number: it is open nowhere and not 0, and fits four bytes.
+-- The next number: how the search goes on, and that it ends on a number that is open nowhere and not 0.
 use Prim.Native.Nat.{ℕ, zero, suc, _+_, _%_, _^_, _≤_, _<_, _-_}
 use native.Mathlib.Omega.{arith}
 use mathlib.Core.Path.{_≡_, ap, _∙_}
@@ -6,7 +6,7 @@ use mathlib.Core.Bool.{Bool, true, false}
 use lib.ListN.{length}
 use Rattle.ledger.specs.Choice.{pick}
 use Rattle.ledger.specs.Tally.{sumOf, free, nextFrom}
-use Rattle.ledger.proofs.Tallies.{picked, sum-most}
+use Rattle.ledger.proofs.Tallies.{sum-most}
 use Rattle.ledger.proofs.Found.{finds}
 use Rattle.paper.specs.Base.{Slot, Table, closed}
 use Rattle.paper.specs.Correlations.{occurrences, nextNumber}
@@ -24,18 +24,10 @@ module _ (count : ℕ → ℕ) where
       let s : k ≡ suc k - 1 = omega arith in
       ap (λ (b : Bool). pick b c (nextFrom k count ((c + 1) % 2 ^ 32))) e ∙ ap (λ (j : ℕ). nextFrom j count ((c + 1) % 2 ^ 32)) s
 
+-- At most 16 times 8 numbers are open.
 pub next-free : (t : Table) → Shaped t → t .counter < 2 ^ 32 → free (occurrences t) (nextNumber t) ≡ true
 unfolding occurrences nextNumber
 next-free t s h =
     let most : 1 + sumOf (λ (x : Slot). length (x .waiting)) (t .slots) ≤ 129 =
     omega (arith, sum-most (λ (x : Slot). length (x .waiting)) closed 8 (t .slots) (s .eight), s .sixteen) in
     finds (λ (x : Slot). x .waiting) (t .slots) 129 (t .counter) h most (omega arith)
-
-from-small : (count : ℕ → ℕ) (k c : ℕ) → c < 2 ^ 32 → nextFrom k count c < 2 ^ 32
-from-small count zero c h = h
-from-small count (suc k) c h =
-    picked (λ (n : ℕ). n < 2 ^ 32) (free count c) c (nextFrom k count ((c + 1) % 2 ^ 32)) (λ e. h) (λ e. from-small count k ((c + 1) % 2 ^ 32) (omega arith))
-
-pub next-small : (t : Table) → t .counter < 2 ^ 32 → nextNumber t < 2 ^ 32
-unfolding nextNumber
-next-small t h = from-small (occurrences t) 129 (t .counter) h

@@ -30,7 +30,7 @@ pub fn state_of(n: u8) -> State
 }
 
 // The stream in the bytes of a slot.
-pub fn stream_from(c: &[u8]) -> Stream
+fn stream_from(c: &[u8]) -> Stream
     requires { ⌜ length (now c) ≡ 42 ⌝ }
     ensures { λ r. ⌜ r ≡ streamFrom (now (c .entry)) ⌝ }
 {

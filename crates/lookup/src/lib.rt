@@ -16,7 +16,7 @@ use paper::PpaNumber;
 use paper::Token;
 
 // The PPA at a place has that number.
-pub fn is_ppa(img: &[u8], p: PpaNumber, k: usize) -> bool
+fn is_ppa(img: &[u8], p: PpaNumber, k: usize) -> bool
     requires { ⌜ (k < length (tableOf (now img) .ppas)) × (length (now img) ≡ 760) × Lent (now img) ⌝ }
     ensures { λ r. ⌜ r ≡ eqb (getD (tableOf (now (img .entry)) .ppas) k noPpa .number .0) (p .0) ⌝ }
 {
@@ -25,7 +25,7 @@ pub fn is_ppa(img: &[u8], p: PpaNumber, k: usize) -> bool
 }
 
 // The place of the PPA with a number; as many as there are PPAs where none has it.
-pub fn place_of(img: &[u8], p: PpaNumber) -> usize
+fn place_of(img: &[u8], p: PpaNumber) -> usize
     requires { ⌜ (length (now img) ≡ 760) × Lent (now img) ⌝ }
     ensures { λ r. ⌜ r ≡ firstOf (λ (q : Ppa). eqb (q .number .0) (p .0)) (tableOf (now (img .entry)) .ppas) ⌝ }
 {
@@ -48,7 +48,7 @@ pub fn knows(img: &[u8], p: PpaNumber) -> bool
 }
 
 // The MAC of the PPA at a place.
-pub fn mac_at(img: &[u8], k: usize) -> [u8; 6]
+fn mac_at(img: &[u8], k: usize) -> [u8; 6]
     requires { ⌜ (k < length (tableOf (now img) .ppas)) × (length (now img) ≡ 760) × Lent (now img) ⌝ }
     ensures { λ r. ⌜ r ≡ getD (tableOf (now (img .entry)) .ppas) k noPpa .mac ⌝ }
 {
@@ -108,7 +108,7 @@ pub fn is_listened_for(img: &[u8], p: PpaNumber, sap: u32) -> bool
 }
 
 // Token 0 or one's own means this stream.
-pub fn means_itself(i: u8, k: Token) -> bool
+fn means_itself(i: u8, k: Token) -> bool
     ensures { λ r. ⌜ r ≡ either (eqb (k .0) 0) (eqb (k .0) (suc i)) ⌝ }
 {
     if k.0 == 0 {

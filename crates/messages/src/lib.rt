@@ -41,7 +41,7 @@ fn other_code(code: u32) -> Primitive
 }
 
 // The codes of the paper's table.
-pub fn primitive_of(code: u32) -> Primitive
+fn primitive_of(code: u32) -> Primitive
     ensures { λ r. ⌜ r ≡ primitiveOf code ⌝ }
 {
     match code {

@@ -1,3 +1,4 @@
 -- The sentences of the demands, one theorem each.
 pub mod ErrorAck
 pub mod OutState
+pub mod NextNumber

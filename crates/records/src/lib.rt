@@ -10,7 +10,7 @@ use paper::Kind;
 use paper::PpaNumber;
 
 // The letters.
-pub fn kind_of(b: u8) -> Kind
+fn kind_of(b: u8) -> Kind
     ensures { λ r. ⌜ r ≡ kindOf b ⌝ }
 {
     match b {
@@ -30,7 +30,7 @@ pub fn kind_of(b: u8) -> Kind
 }
 
 // The kind's byte and the body.
-pub fn size_of(k: Kind) -> usize
+fn size_of(k: Kind) -> usize
     ensures { λ r. ⌜ r ≡ sizeOf k ⌝ }
 {
     match k {
@@ -60,7 +60,7 @@ pub fn record_size(r: &[u8]) -> usize
 }
 
 // A byte of the block past L is not zero. With L over 96 there are none.
-pub fn has_nonzero_padding(r: &[u8]) -> bool
+fn has_nonzero_padding(r: &[u8]) -> bool
     requires { ⌜ 99 ≤ length (now r) ⌝ }
     ensures { λ q. ⌜ q ≡ hasNonzeroPadding (now (r .entry)) ⌝ }
 {

@@ -40,7 +40,7 @@ fn carry_on(img: &mut [u8], i: u8, n: Correlation, c: u8)
 }
 
 // The table after a row.
-pub fn change_table(img: &mut [u8], i: u8, row: Row)
+fn change_table(img: &mut [u8], i: u8, row: Row)
     requires { ⌜ (i < 16) × (length (now img) ≡ 760) × Lent (now img) ⌝ }
     ensures { λ _. ⌜ now (img .exit) ≡ imageOf (tableAfter (tableOf (now (img .entry))) i row) ⌝ }
 {

@@ -304,7 +304,7 @@ fn remembers_openings(img: &[u8]) -> bool
     image::free_total(img) == 16
 }
 
-pub fn is_sound(img: &[u8]) -> bool
+fn is_sound(img: &[u8]) -> bool
     requires { ⌜ (length (now img) ≡ 760) × Lent (now img) ⌝ }
     ensures { λ r. ⌜ r ≡ sound (tableOf (now (img .entry))) ⌝ }
 {
