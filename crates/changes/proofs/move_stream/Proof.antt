@@ -12,7 +12,9 @@ unfolding moved
 returns c = rw (c .before .before .store-stream .ensures, c .before .before .before .in-state .ensures, c .before .before .before .before .before .load-stream .ensures)
 
 returns-2 : tie.Need-returns-2
-returns-2 c = sym (ap imageOf (moved-past (tableOf (now (c .before .before .args .img))) (c .before .before .pre .1 .shaped) (c .before .before .args .i) (c .before .before .args .q) (c .if1 .left)) ∙ c .before .before .pre .1 .same)
+returns-2 c =
+    let a = c .before .before in
+    sym (ap imageOf (moved-past (tableOf (now (a .args .img))) (a .pre .1 .shaped) (a .args .i) (a .args .q) (c .if1 .left)) ∙ a .pre .1 .same)
 
 pub move-stream-spec : {M : Type 1} → statement M
 move-stream-spec =

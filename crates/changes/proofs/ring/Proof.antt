@@ -14,7 +14,11 @@ use Rattle.changes.proofs.ring.Tie as tie
 
 add-call-requires : tie.Need-add-call-requires
 unfolding withCounter
-add-call-requires c κs = (search needs, search needs, lent-after (withCounter (tableOf (now (c .before .before .before .before .before .before .before .before .before .before .args .img))) (c .before .before .before .before .before .wrapping-add-u32 .result)) (shaped-counter (tableOf (now (c .before .before .before .before .before .before .before .before .before .before .args .img))) (c .before .before .before .before .before .before .before .before .before .before .pre .2 .shaped) (c .before .before .before .before .before .wrapping-add-u32 .result)) _ (c .before .before .before .before .store-counter .ensures), subst (λ (t : Table). length (waiting t (c .before .before .before .before .before .before .before .before .before .before .args .i)) < 8) (sym (table-after (withCounter (tableOf (now (c .before .before .before .before .before .before .before .before .before .before .args .img))) (c .before .before .before .before .before .wrapping-add-u32 .result)) (shaped-counter (tableOf (now (c .before .before .before .before .before .before .before .before .before .before .args .img))) (c .before .before .before .before .before .before .before .before .before .before .pre .2 .shaped) (c .before .before .before .before .before .wrapping-add-u32 .result)) _ (c .before .before .before .before .store-counter .ensures))) (c .before .before .before .before .before .before .before .before .before .before .pre .3))
+add-call-requires c κs =
+    let a = c .before .before .before .before .before .before .before .before .before .before in
+    let img = now (a .args .img) in
+    let t = tableOf img in
+    (search needs, search needs, lent-after (withCounter t (c .before .before .before .before .before .wrapping-add-u32 .result)) (shaped-counter t (a .pre .2 .shaped) (c .before .before .before .before .before .wrapping-add-u32 .result)) _ (c .before .before .before .before .store-counter .ensures), subst (λ (t : Table). length (waiting t (a .args .i)) < 8) (sym (table-after (withCounter t (c .before .before .before .before .before .wrapping-add-u32 .result)) (shaped-counter t (a .pre .2 .shaped) (c .before .before .before .before .before .wrapping-add-u32 .result)) _ (c .before .before .before .before .store-counter .ensures))) (a .pre .3))
 
 returns : tie.Need-returns
 unfolding ringing withCounter

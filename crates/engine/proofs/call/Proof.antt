@@ -9,7 +9,12 @@ use Rattle.engine.proofs.call.Statement.{statement}
 use Rattle.engine.proofs.call.Tie as tie
 
 returns : tie.Need-returns
-returns c = ap (λ (n : ℕ). left n (now (c .before .before .before .before .before .before .before .args .img)) (now (c .before .before .before .before .before .before .before .args .room))) (c .refused .ensures) ∙ call-off (now (c .before .before .before .before .before .before .before .args .img)) (now (c .before .before .before .before .before .before .before .args .r)) (now (c .before .before .before .before .before .before .before .args .room)) (sym (c .before .before .sound-image .ensures) ∙ not-true _ (c .before .if1 .taken))
+returns c =
+    let a = c .before .before .before .before .before .before .before in
+    let img = now (a .args .img) in
+    let room = now (a .args .room) in
+    ap (λ (n : ℕ). left n img room) (c .refused .ensures)
+    ∙ call-off img (now (a .args .r)) room (sym (c .before .before .sound-image .ensures) ∙ not-true _ (c .before .if1 .taken))
 
 call-sound-requires : tie.Need-call-sound-requires
 call-sound-requires c κs = sym (c .before .before .before .sound-image .ensures) ∙ not-false _ (c .before .before .if1 .left)

@@ -16,16 +16,40 @@ use Rattle.engine.proofs.call_sound.Statement.{statement}
 use Rattle.engine.proofs.call_sound.Tie as tie
 
 returns : tie.Need-returns
-returns c = where-true (now (c .before .before .before .before .before .before .before .args .img)) (now (c .before .before .before .before .before .before .before .args .room)) _ _ (ap not (sym (c .before .before .is-readable .ensures ∙ ap isReadable (c .before .before .before .input-of .ensures))) ∙ c .before .if1 .taken) (leaves-refused (now (c .before .before .before .before .before .before .before .args .img)) (now (c .before .before .before .before .before .before .before .args .room)) (tableOf (now (c .before .before .before .before .before .before .before .args .img))) 10 _ (omega arith) (c .refused .ensures)) ∙ call-on (now (c .before .before .before .before .before .before .before .args .img)) (now (c .before .before .before .before .before .before .before .args .r)) (now (c .before .before .before .before .before .before .before .args .room)) (c .before .before .before .before .before .before .before .pre)
+returns c =
+    let a = c .before .before .before .before .before .before .before in
+    let img = now (a .args .img) in
+    let room = now (a .args .room) in
+    where-true img room _ _ (ap not (sym (c .before .before .is-readable .ensures ∙ ap isReadable (c .before .before .before .input-of .ensures))) ∙ c .before .if1 .taken)
+    (leaves-refused img room (tableOf img) 10 _ (omega arith) (c .refused .ensures))
+    ∙ call-on img (now (a .args .r)) room (a .pre)
 
 returns-2 : tie.Need-returns-2
-returns-2 c = where-false (now (c .before .before .before .before .before .before .before .before .args .img)) (now (c .before .before .before .before .before .before .before .before .args .room)) _ _ (ap not (sym (c .before .before .before .is-readable .ensures ∙ ap isReadable (c .before .before .before .before .input-of .ensures))) ∙ c .before .before .if1 .left) (where-true (now (c .before .before .before .before .before .before .before .before .args .img)) (now (c .before .before .before .before .before .before .before .before .args .room)) _ _ (lt-ltb _ _ (c .before .if2 .taken)) (leaves-refused (now (c .before .before .before .before .before .before .before .before .args .img)) (now (c .before .before .before .before .before .before .before .before .args .room)) (tableOf (now (c .before .before .before .before .before .before .before .before .args .img))) 1 _ (omega arith) (c .refused2 .ensures))) ∙ call-on (now (c .before .before .before .before .before .before .before .before .args .img)) (now (c .before .before .before .before .before .before .before .before .args .r)) (now (c .before .before .before .before .before .before .before .before .args .room)) (c .before .before .before .before .before .before .before .before .pre)
+returns-2 c =
+    let a = c .before .before .before .before .before .before .before .before in
+    let img = now (a .args .img) in
+    let room = now (a .args .room) in
+    where-false img room _ _ (ap not (sym (c .before .before .before .is-readable .ensures ∙ ap isReadable (c .before .before .before .before .input-of .ensures))) ∙ c .before .before .if1 .left)
+    (where-true img room _ _ (lt-ltb _ _ (c .before .if2 .taken))
+    (leaves-refused img room (tableOf img) 1 _ (omega arith) (c .refused2 .ensures)))
+    ∙ call-on img (now (a .args .r)) room (a .pre)
 
 serve-requires : tie.Need-serve-requires
-serve-requires c κs = (lent-length (now (c .before .before .before .before .before .before .before .before .before .args .img)) (sound-lent (now (c .before .before .before .before .before .before .before .before .before .args .img)) (c .before .before .before .before .before .before .before .before .before .pre)), c .before .before .before .before .before .before .before .before .before .pre, c .before .before .if2 .left, sym (c .before .before .before .before .before .input-of .ensures))
+serve-requires c κs =
+    let a = c .before .before .before .before .before .before .before .before .before in
+    let img = now (a .args .img) in
+    (lent-length img (sound-lent img (a .pre)), a .pre, c .before .before .if2 .left, sym (c .before .before .before .before .before .input-of .ensures))
 
 returns-3 : tie.Need-returns-3
-returns-3 c = where-false (now (c .before .before .before .before .before .before .before .before .before .before .before .before .before .before .args .img)) (now (c .before .before .before .before .before .before .before .before .before .before .before .before .before .before .args .room)) _ _ (ap not (sym (c .before .before .before .before .before .before .before .before .before .is-readable .ensures ∙ ap isReadable (c .before .before .before .before .before .before .before .before .before .before .input-of .ensures))) ∙ c .before .before .before .before .before .before .before .before .if1 .left) (where-false (now (c .before .before .before .before .before .before .before .before .before .before .before .before .before .before .args .img)) (now (c .before .before .before .before .before .before .before .before .before .before .before .before .before .before .args .room)) _ _ (le-ltb _ _ (c .before .before .before .before .before .before .before .if2 .left)) (c .before .before .before .before .serve .ensures ∙ ap (λ (q : Input). leaving (now (c .before .before .before .before .before .before .before .before .before .before .before .before .before .before .args .img)) (now (c .before .before .before .before .before .before .before .before .before .before .before .before .before .before .args .room)) (serve (tableOf (now (c .before .before .before .before .before .before .before .before .before .before .before .before .before .before .args .img))) (now (c .before .before .before .before .before .before .before .before .before .before .before .before .before .before .args .r)) q)) (c .before .before .before .before .before .before .before .before .before .before .input-of .ensures))) ∙ call-on (now (c .before .before .before .before .before .before .before .before .before .before .before .before .before .before .args .img)) (now (c .before .before .before .before .before .before .before .before .before .before .before .before .before .before .args .r)) (now (c .before .before .before .before .before .before .before .before .before .before .before .before .before .before .args .room)) (c .before .before .before .before .before .before .before .before .before .before .before .before .before .before .pre)
+returns-3 c =
+    let a = c .before .before .before .before .before .before .before .before .before .before .before .before .before .before in
+    let img = now (a .args .img) in
+    let room = now (a .args .room) in
+    let r = now (a .args .r) in
+    where-false img room _ _ (ap not (sym (c .before .before .before .before .before .before .before .before .before .is-readable .ensures ∙ ap isReadable (c .before .before .before .before .before .before .before .before .before .before .input-of .ensures))) ∙ c .before .before .before .before .before .before .before .before .if1 .left)
+    (where-false img room _ _ (le-ltb _ _ (c .before .before .before .before .before .before .before .if2 .left)) (c .before .before .before .before .serve .ensures
+    ∙ ap (λ (q : Input). leaving img room (serve (tableOf img) r q)) (c .before .before .before .before .before .before .before .before .before .before .input-of .ensures)))
+    ∙ call-on img r room (a .pre)
 
 pub call-sound-spec : {M : Type 1} → statement M
 call-sound-spec =

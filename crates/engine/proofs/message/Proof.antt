@@ -18,22 +18,50 @@ use Rattle.engine.proofs.message.Tie as tie
 
 returns : tie.Need-returns
 unfolding ofOpen message
-returns c = where-true (now (c .before .before .before .before .before .before .before .args .img)) (now (c .before .before .before .before .before .before .before .args .room)) _ _ (ap not (sym (c .before .before .is-open .ensures)) ∙ c .before .if1 .taken) (leaves-refused (now (c .before .before .before .before .before .before .before .args .img)) (now (c .before .before .before .before .before .before .before .args .room)) (tableOf (now (c .before .before .before .before .before .before .before .args .img))) 2 _ (omega arith) (c .refused .ensures))
+returns c =
+    let a = c .before .before .before .before .before .before .before in
+    let img = now (a .args .img) in
+    let room = now (a .args .room) in
+    where-true img room _ _ (ap not (sym (c .before .before .is-open .ensures)) ∙ c .before .if1 .taken)
+    (leaves-refused img room (tableOf img) 2 _ (omega arith) (c .refused .ensures))
 
 returns-2 : tie.Need-returns-2
 unfolding ofOpen message
-returns-2 c = where-false (now (c .before .before .before .before .before .before .before .before .args .img)) (now (c .before .before .before .before .before .before .before .before .args .room)) _ _ (ap not (sym (c .before .before .before .is-open .ensures)) ∙ c .before .before .if1 .left) (where-true (now (c .before .before .before .before .before .before .before .before .args .img)) (now (c .before .before .before .before .before .before .before .before .args .room)) _ _ (lt-ltb _ _ (c .before .if2 .taken)) (leaves-refused (now (c .before .before .before .before .before .before .before .before .args .img)) (now (c .before .before .before .before .before .before .before .before .args .room)) (tableOf (now (c .before .before .before .before .before .before .before .before .args .img))) 5 _ (omega arith) (c .refused2 .ensures)))
+returns-2 c =
+    let a = c .before .before .before .before .before .before .before .before in
+    let img = now (a .args .img) in
+    let room = now (a .args .room) in
+    where-false img room _ _ (ap not (sym (c .before .before .before .is-open .ensures)) ∙ c .before .before .if1 .left)
+    (where-true img room _ _ (lt-ltb _ _ (c .before .if2 .taken))
+    (leaves-refused img room (tableOf img) 5 _ (omega arith) (c .refused2 .ensures)))
 
 returns-3 : tie.Need-returns-3
 unfolding ofOpen message
-returns-3 c = where-false (now (c .before .before .before .before .before .before .before .before .before .args .img)) (now (c .before .before .before .before .before .before .before .before .before .args .room)) _ _ (ap not (sym (c .before .before .before .before .is-open .ensures)) ∙ c .before .before .before .if1 .left) (where-false (now (c .before .before .before .before .before .before .before .before .before .args .img)) (now (c .before .before .before .before .before .before .before .before .before .args .room)) _ _ (le-ltb _ _ (c .before .before .if2 .left)) (where-true (now (c .before .before .before .before .before .before .before .before .before .args .img)) (now (c .before .before .before .before .before .before .before .before .before .args .room)) _ _ (lt-ltb _ _ (c .before .if3 .taken)) (leaves-refused (now (c .before .before .before .before .before .before .before .before .before .args .img)) (now (c .before .before .before .before .before .before .before .before .before .args .room)) (tableOf (now (c .before .before .before .before .before .before .before .before .before .args .img))) 4 _ (omega arith) (c .refused3 .ensures))))
+returns-3 c =
+    let a = c .before .before .before .before .before .before .before .before .before in
+    let img = now (a .args .img) in
+    let room = now (a .args .room) in
+    where-false img room _ _ (ap not (sym (c .before .before .before .before .is-open .ensures)) ∙ c .before .before .before .if1 .left)
+    (where-false img room _ _ (le-ltb _ _ (c .before .before .if2 .left))
+    (where-true img room _ _ (lt-ltb _ _ (c .before .if3 .taken))
+    (leaves-refused img room (tableOf img) 4 _ (omega arith) (c .refused3 .ensures))))
 
 answer-requires : tie.Need-answer-requires
-answer-requires c κs = (open-within (tableOf (now (c .before .before .before .before .before .before .before .before .before .before .before .args .img))) (c .before .before .before .before .before .before .before .before .before .before .before .pre .1 .shaped) (c .before .before .before .before .before .before .before .before .before .before .before .args .i) (sym (c .before .before .before .before .before .before .is-open .ensures) ∙ not-false _ (c .before .before .before .before .before .if1 .left)), c .before .before .before .before .before .before .before .before .before .before .before .pre .0, c .before .before .before .before .before .before .before .before .before .before .before .pre .1, c .before .before .before .before .before .before .before .before .before .before .before .pre .2, rw (c .part-at .ensures) (omega (arith, part-most (now (c .before .before .before .before .before .before .before .before .before .before .before .args .r)) 3 (c .before .before .before .before .before .before .before .before .before .before .before .args .l))))
+answer-requires c κs =
+    let a = c .before .before .before .before .before .before .before .before .before .before .before in
+    (open-within (tableOf (now (a .args .img))) (a .pre .1 .shaped) (a .args .i) (sym (c .before .before .before .before .before .before .is-open .ensures) ∙ not-false _ (c .before .before .before .before .before .if1 .left)), a .pre .0, a .pre .1, a .pre .2, rw (c .part-at .ensures) (omega (arith, part-most (now (a .args .r)) 3 (a .args .l))))
 
 returns-4 : tie.Need-returns-4
 unfolding ofOpen message
-returns-4 c = where-false (now (c .before .before .before .before .before .before .before .before .before .before .before .before .before .before .before .before .args .img)) (now (c .before .before .before .before .before .before .before .before .before .before .before .before .before .before .before .before .args .room)) _ _ (ap not (sym (c .before .before .before .before .before .before .before .before .before .before .before .is-open .ensures)) ∙ c .before .before .before .before .before .before .before .before .before .before .if1 .left) (where-false (now (c .before .before .before .before .before .before .before .before .before .before .before .before .before .before .before .before .args .img)) (now (c .before .before .before .before .before .before .before .before .before .before .before .before .before .before .before .before .args .room)) _ _ (le-ltb _ _ (c .before .before .before .before .before .before .before .before .before .if2 .left)) (where-false (now (c .before .before .before .before .before .before .before .before .before .before .before .before .before .before .before .before .args .img)) (now (c .before .before .before .before .before .before .before .before .before .before .before .before .before .before .before .before .args .room)) _ _ (le-ltb _ _ (c .before .before .before .before .before .before .before .before .if3 .left)) (c .before .before .before .before .answer .ensures ∙ ap (λ (m : List ℕ). leaving (now (c .before .before .before .before .before .before .before .before .before .before .before .before .before .before .before .before .args .img)) (now (c .before .before .before .before .before .before .before .before .before .before .before .before .before .before .before .before .args .room)) (answered (tableOf (now (c .before .before .before .before .before .before .before .before .before .before .before .before .before .before .before .before .args .img))) (c .before .before .before .before .before .before .before .before .before .before .before .before .before .before .before .before .args .i) m (verdictOn (tableOf (now (c .before .before .before .before .before .before .before .before .before .before .before .before .before .before .before .before .args .img))) (c .before .before .before .before .before .before .before .before .before .before .before .before .before .before .before .before .args .i) (askedBy m)))) (c .before .before .before .before .before .part-at .ensures))))
+returns-4 c =
+    let a = c .before .before .before .before .before .before .before .before .before .before .before .before .before .before .before .before in
+    let img = now (a .args .img) in
+    let room = now (a .args .room) in
+    let t = tableOf img in
+    where-false img room _ _ (ap not (sym (c .before .before .before .before .before .before .before .before .before .before .before .is-open .ensures)) ∙ c .before .before .before .before .before .before .before .before .before .before .if1 .left)
+    (where-false img room _ _ (le-ltb _ _ (c .before .before .before .before .before .before .before .before .before .if2 .left))
+    (where-false img room _ _ (le-ltb _ _ (c .before .before .before .before .before .before .before .before .if3 .left)) (c .before .before .before .before .answer .ensures
+    ∙ ap (λ (m : List ℕ). leaving img room (answered t (a .args .i) m (verdictOn t (a .args .i) (askedBy m)))) (c .before .before .before .before .before .part-at .ensures))))
 
 pub message-spec : {M : Type 1} → statement M
 message-spec =

@@ -19,46 +19,85 @@ use Rattle.engine.proofs.serve.Statement.{statement}
 use Rattle.engine.proofs.serve.Tie as tie
 
 add-ppa-requires : tie.Need-add-ppa-requires
-add-ppa-requires c κs = (c .before .before .before .before .before .before .before .before .pre .0, sound-lent (now (c .before .before .before .before .before .before .before .before .args .img)) (c .before .before .before .before .before .before .before .before .pre .1), rw (c .part-at .ensures) (part-length (now (c .before .before .before .before .before .before .before .before .args .r)) 5 6 (adds-long (now (c .before .before .before .before .before .before .before .before .args .r)) _ (c .before .before .before .before .before .before .before .before .pre .3 ∙ c .before .before .before .q .given .1))))
+add-ppa-requires c κs =
+    let a = c .before .before .before .before .before .before .before .before in
+    let r = now (a .args .r) in
+    (a .pre .0, sound-lent (now (a .args .img)) (a .pre .1), rw (c .part-at .ensures) (part-length r 5 6 (adds-long r _ (a .pre .3 ∙ c .before .before .before .q .given .1))))
 
 open-stream-requires : tie.Need-open-stream-requires
-open-stream-requires c κs = (c .before .before .before .before .before .before .pre .0, sound-lent (now (c .before .before .before .before .before .before .args .img)) (c .before .before .before .before .before .before .pre .1), shut (tableOf (now (c .before .before .before .before .before .before .args .img))) (parts (now (c .before .before .before .before .before .before .args .img)) (c .before .before .before .before .before .before .pre .1) .1))
+open-stream-requires c κs =
+    let a = c .before .before .before .before .before .before in
+    let img = now (a .args .img) in
+    (a .pre .0, sound-lent img (a .pre .1), shut (tableOf img) (parts img (a .pre .1) .1))
 
 close-stream-requires : tie.Need-close-stream-requires
-close-stream-requires c κs = (c .before .before .before .before .before .before .before .before .pre .0, sound-lent (now (c .before .before .before .before .before .before .before .before .args .img)) (c .before .before .before .before .before .before .before .before .pre .1), c .before .before .before .before .before .before .before .before .pre .2)
+close-stream-requires c κs =
+    let a = c .before .before .before .before .before .before .before .before in
+    (a .pre .0, sound-lent (now (a .args .img)) (a .pre .1), a .pre .2)
 
 message-requires : tie.Need-message-requires
-message-requires c κs = (c .before .before .before .before .before .before .before .before .pre .0, sound-lent (now (c .before .before .before .before .before .before .before .before .args .img)) (c .before .before .before .before .before .before .before .before .pre .1), c .before .before .before .before .before .before .before .before .pre .2)
+message-requires c κs =
+    let a = c .before .before .before .before .before .before .before .before in
+    (a .pre .0, sound-lent (now (a .args .img)) (a .pre .1), a .pre .2)
 
 call-arrives-requires : tie.Need-call-arrives-requires
-call-arrives-requires c κs = (c .before .before .before .before .before .before .before .before .before .pre .0, sound-lent (now (c .before .before .before .before .before .before .before .before .before .args .img)) (c .before .before .before .before .before .before .before .before .before .pre .1), c .before .before .before .before .before .before .before .before .before .pre .2, rw (c .part-at2 .ensures) (part-length (now (c .before .before .before .before .before .before .before .before .before .args .r)) 5 14 (calls-long (now (c .before .before .before .before .before .before .before .before .before .args .r)) _ _ (c .before .before .before .before .before .before .before .before .before .pre .3 ∙ c .before .before .before .before .q4 .given .1))), granted-few (tableOf (now (c .before .before .before .before .before .before .before .before .before .args .img))) (parts (now (c .before .before .before .before .before .before .before .before .before .args .img)) (c .before .before .before .before .before .before .before .before .before .pre .1) .1))
+call-arrives-requires c κs =
+    let a = c .before .before .before .before .before .before .before .before .before in
+    let img = now (a .args .img) in
+    let r = now (a .args .r) in
+    (a .pre .0, sound-lent img (a .pre .1), a .pre .2, rw (c .part-at2 .ensures) (part-length r 5 14 (calls-long r _ _ (a .pre .3 ∙ c .before .before .before .before .q4 .given .1))), granted-few (tableOf img) (parts img (a .pre .1) .1))
 
 peer-accepted-requires : tie.Need-peer-accepted-requires
-peer-accepted-requires c κs = (c .before .before .before .before .before .before .before .before .before .pre .0, sound-lent (now (c .before .before .before .before .before .before .before .before .before .args .img)) (c .before .before .before .before .before .before .before .before .before .pre .1), c .before .before .before .before .before .before .before .before .before .pre .2, rw (c .part-at3 .ensures) (part-most (now (c .before .before .before .before .before .before .before .before .before .args .r)) 2 7))
+peer-accepted-requires c κs =
+    let a = c .before .before .before .before .before .before .before .before .before in
+    (a .pre .0, sound-lent (now (a .args .img)) (a .pre .1), a .pre .2, rw (c .part-at3 .ensures) (part-most (now (a .args .r)) 2 7))
 
 peer-gone-requires : tie.Need-peer-gone-requires
-peer-gone-requires c κs = (c .before .before .before .before .before .before .before .before .pre .0, sound-lent (now (c .before .before .before .before .before .before .before .before .args .img)) (c .before .before .before .before .before .before .before .before .pre .1), c .before .before .before .before .before .before .before .before .pre .2)
+peer-gone-requires c κs =
+    let a = c .before .before .before .before .before .before .before .before in
+    (a .pre .0, sound-lent (now (a .args .img)) (a .pre .1), a .pre .2)
 
 call-withdrawn-requires : tie.Need-call-withdrawn-requires
-call-withdrawn-requires c κs = (c .before .before .before .before .before .before .before .before .pre .0, sound-lent (now (c .before .before .before .before .before .before .before .before .args .img)) (c .before .before .before .before .before .before .before .before .pre .1), c .before .before .before .before .before .before .before .before .pre .2)
+call-withdrawn-requires c κs =
+    let a = c .before .before .before .before .before .before .before .before in
+    (a .pre .0, sound-lent (now (a .args .img)) (a .pre .1), a .pre .2)
 
 peer-reset-requires : tie.Need-peer-reset-requires
-peer-reset-requires c κs = (c .before .before .before .before .before .before .before .before .pre .0, sound-lent (now (c .before .before .before .before .before .before .before .before .args .img)) (c .before .before .before .before .before .before .before .before .pre .1), c .before .before .before .before .before .before .before .before .pre .2)
+peer-reset-requires c κs =
+    let a = c .before .before .before .before .before .before .before .before in
+    (a .pre .0, sound-lent (now (a .args .img)) (a .pre .1), a .pre .2)
 
 reset-confirmed-requires : tie.Need-reset-confirmed-requires
-reset-confirmed-requires c κs = (c .before .before .before .before .before .before .before .before .pre .0, sound-lent (now (c .before .before .before .before .before .before .before .before .args .img)) (c .before .before .before .before .before .before .before .before .pre .1), c .before .before .before .before .before .before .before .before .pre .2)
+reset-confirmed-requires c κs =
+    let a = c .before .before .before .before .before .before .before .before in
+    (a .pre .0, sound-lent (now (a .args .img)) (a .pre .1), a .pre .2)
 
 returns : tie.Need-returns
-returns c = rw (c .before .enum-told .given .1) (leaves-refused (now (c .before .before .before .before .before .before .args .img)) (now (c .before .before .before .before .before .before .args .room)) (tableOf (now (c .before .before .before .before .before .before .args .img))) 10 _ (omega arith) (c .refused .ensures))
+returns c =
+    let a = c .before .before .before .before .before .before in
+    let img = now (a .args .img) in
+    rw (c .before .enum-told .given .1)
+    (leaves-refused img (now (a .args .room)) (tableOf img) 10 _ (omega arith) (c .refused .ensures))
 
 returns-2 : tie.Need-returns-2
-returns-2 c = rw (c .before .enum-told2 .given .1) (leaves-refused (now (c .before .before .before .before .before .before .args .img)) (now (c .before .before .before .before .before .before .args .room)) (tableOf (now (c .before .before .before .before .before .before .args .img))) 10 _ (omega arith) (c .refused2 .ensures))
+returns-2 c =
+    let a = c .before .before .before .before .before .before in
+    let img = now (a .args .img) in
+    rw (c .before .enum-told2 .given .1)
+    (leaves-refused img (now (a .args .room)) (tableOf img) 10 _ (omega arith) (c .refused2 .ensures))
 
 returns-3 : tie.Need-returns-3
-returns-3 c = rw (c .before .before .before .before .before .before .q .given .1) (c .before .before .add-ppa .ensures (now (c .before .before .before .before .before .before .before .before .before .before .before .args .room)) ∙ ap (λ (m : List ℕ). leaving (now (c .before .before .before .before .before .before .before .before .before .before .before .args .img)) (now (c .before .before .before .before .before .before .before .before .before .before .before .args .room)) (addsPpa (tableOf (now (c .before .before .before .before .before .before .before .before .before .before .before .args .img))) (c .before .before .before .before .before .before .q .given .0 .0) m)) (c .before .before .before .part-at .ensures))
+returns-3 c =
+    let a = c .before .before .before .before .before .before .before .before .before .before .before in
+    let img = now (a .args .img) in
+    let room = now (a .args .room) in
+    rw (c .before .before .before .before .before .before .q .given .1) (c .before .before .add-ppa .ensures room
+    ∙ ap (λ (m : List ℕ). leaving img room (addsPpa (tableOf img) (c .before .before .before .before .before .before .q .given .0 .0) m)) (c .before .before .before .part-at .ensures))
 
 returns-4 : tie.Need-returns-4
-returns-4 c = rw (c .before .before .before .before .enum-told3 .given .1) (c .before .before .open-stream .ensures (now (c .before .before .before .before .before .before .before .before .before .args .room)))
+returns-4 c =
+    let a = c .before .before .before .before .before .before .before .before .before in
+    rw (c .before .before .before .before .enum-told3 .given .1) (c .before .before .open-stream .ensures (now (a .args .room)))
 
 returns-5 : tie.Need-returns-5
 returns-5 c = rw (c .before .before .before .before .before .before .before .before .q2 .given .1) (c .before .before .before .before .close-stream .ensures)
@@ -76,7 +115,12 @@ returns-7 c =
     rw (c .before .before .before .before .before .before .before .before .before .q4 .given .1) (c .before .before .before .before .call-arrives .ensures ∙ (λ d. leaving (now (c .before .before .before .before .before .before .before .before .before .before .before .before .before .before .args .img)) (now (c .before .before .before .before .before .before .before .before .before .before .before .before .before .before .args .room)) (callArrives (tableOf (now (c .before .before .before .before .before .before .before .before .before .before .before .before .before .before .args .img))) (c .before .before .before .before .before .before .before .before .before .q4 .given .0 .0) (c .before .before .before .before .before .before .before .before .before .q4 .given .0 .1 .0) (called d) (calling d))))
 
 returns-8 : tie.Need-returns-8
-returns-8 c = rw (c .before .before .before .before .before .before .before .before .before .q5 .given .1) (c .before .before .before .before .peer-accepted .ensures ∙ ap (λ (m : List ℕ). leaving (now (c .before .before .before .before .before .before .before .before .before .before .before .before .before .before .args .img)) (now (c .before .before .before .before .before .before .before .before .before .before .before .before .before .before .args .room)) (ofOpen (tableOf (now (c .before .before .before .before .before .before .before .before .before .before .before .before .before .before .args .img))) (c .before .before .before .before .before .before .before .before .before .q5 .given .0 .0) (peerAccepted (tableOf (now (c .before .before .before .before .before .before .before .before .before .before .before .before .before .before .args .img))) (c .before .before .before .before .before .before .before .before .before .q5 .given .0 .0) m))) (c .before .before .before .before .before .part-at3 .ensures))
+returns-8 c =
+    let a = c .before .before .before .before .before .before .before .before .before .before .before .before .before .before in
+    let img = now (a .args .img) in
+    let t = tableOf img in
+    rw (c .before .before .before .before .before .before .before .before .before .q5 .given .1) (c .before .before .before .before .peer-accepted .ensures
+    ∙ ap (λ (m : List ℕ). leaving img (now (a .args .room)) (ofOpen t (c .before .before .before .before .before .before .before .before .before .q5 .given .0 .0) (peerAccepted t (c .before .before .before .before .before .before .before .before .before .q5 .given .0 .0) m))) (c .before .before .before .before .before .part-at3 .ensures))
 
 returns-9 : tie.Need-returns-9
 returns-9 c = rw (c .before .before .before .before .before .before .before .before .q6 .given .1) (c .before .before .before .before .peer-gone .ensures)

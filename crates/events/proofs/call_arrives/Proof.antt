@@ -17,11 +17,16 @@ use Rattle.events.proofs.call_arrives.Tie as tie
 
 returns : tie.Need-returns
 unfolding callArrives
-returns c = where-true _ _ _ _ (ap not (sym (c .before .before .knows .ensures)) ∙ c .before .if1 .taken) (leaves-refused _ _ _ 7 _ (omega arith) (c .refused .ensures))
+returns c =
+    where-true _ _ _ _ (ap not (sym (c .before .before .knows .ensures)) ∙ c .before .if1 .taken)
+    (leaves-refused _ _ _ 7 _ (omega arith) (c .refused .ensures))
 
 returns-2 : tie.Need-returns-2
 unfolding callArrives
-returns-2 c = where-false _ _ _ _ (ap not (sym (c .before .before .before .before .before .knows .ensures)) ∙ c .before .before .before .before .if1 .left) (where-true _ _ _ _ (ap not (sym (c .before .before .is-called .ensures)) ∙ c .before .if2 .taken) (leaves-refused _ _ _ 7 _ (omega arith) (c .refused2 .ensures)))
+returns-2 c =
+    where-false _ _ _ _ (ap not (sym (c .before .before .before .before .before .knows .ensures)) ∙ c .before .before .before .before .if1 .left)
+    (where-true _ _ _ _ (ap not (sym (c .before .before .is-called .ensures)) ∙ c .before .if2 .taken)
+    (leaves-refused _ _ _ 7 _ (omega arith) (c .refused2 .ensures)))
 
 returns-3 : tie.Need-returns-3
 unfolding callArrives isListenedFor
@@ -33,7 +38,9 @@ returns-3 c =
     (leaves-refused _ _ _ 7 _ (omega arith) (c .refused3 .ensures))))
 
 heard-by-requires : tie.Need-heard-by-requires
-heard-by-requires c κs = (search needs, search needs, search needs, search needs, search needs, c .before .before .before .before .before .before .before .before .before .before .before .before .before .before .before .pre .4 _)
+heard-by-requires c κs =
+    let a = c .before .before .before .before .before .before .before .before .before .before .before .before .before .before .before in
+    (search needs, search needs, search needs, search needs, search needs, a .pre .4 _)
 
 returns-4 : tie.Need-returns-4
 unfolding callArrives isListenedFor

@@ -15,17 +15,26 @@ use Rattle.events.proofs.call_withdrawn.Tie as tie
 
 returns : tie.Need-returns
 unfolding ofOpen
-returns c = where-true _ _ _ _ (ap not (sym (c .before .before .is-open .ensures)) ∙ c .before .if1 .taken) (leaves-refused _ _ _ 2 _ (omega arith) (c .refused .ensures))
+returns c =
+    where-true _ _ _ _ (ap not (sym (c .before .before .is-open .ensures)) ∙ c .before .if1 .taken)
+    (leaves-refused _ _ _ 2 _ (omega arith) (c .refused .ensures))
 
 is-waiting-requires : tie.Need-is-waiting-requires
-is-waiting-requires c κs = (open-within (tableOf (now (c .before .before .before .before .before .before .args .img))) (c .before .before .before .before .before .before .pre .1 .shaped) (c .before .before .before .before .before .before .args .i) (sym (c .before .before .is-open .ensures) ∙ not-false _ (c .before .if1 .left)), search needs, search needs)
+is-waiting-requires c κs =
+    let a = c .before .before .before .before .before .before in
+    (open-within (tableOf (now (a .args .img))) (a .pre .1 .shaped) (a .args .i) (sym (c .before .before .is-open .ensures) ∙ not-false _ (c .before .if1 .left)), search needs, search needs)
 
 returns-2 : tie.Need-returns-2
 unfolding ofOpen callWithdrawn
-returns-2 c = where-false _ _ _ _ (ap not (sym (c .before .before .before .before .before .is-open .ensures)) ∙ c .before .before .before .before .if1 .left) (where-false _ _ _ _ (sym (c .before .before .is-waiting .ensures) ∙ not-true _ (c .before .if2 .taken)) (leaves-refused _ _ _ 6 _ (omega arith) (c .refused2 .ensures)))
+returns-2 c =
+    where-false _ _ _ _ (ap not (sym (c .before .before .before .before .before .is-open .ensures)) ∙ c .before .before .before .before .if1 .left)
+    (where-false _ _ _ _ (sym (c .before .before .is-waiting .ensures) ∙ not-true _ (c .before .if2 .taken))
+    (leaves-refused _ _ _ 6 _ (omega arith) (c .refused2 .ensures)))
 
 lose-call-requires : tie.Need-lose-call-requires
-lose-call-requires c κs = (open-within (tableOf (now (c .before .before .before .before .before .before .before .before .before .before .before .before .before .before .args .img))) (c .before .before .before .before .before .before .before .before .before .before .before .before .before .before .pre .1 .shaped) (c .before .before .before .before .before .before .before .before .before .before .before .before .before .before .args .i) (sym (c .before .before .before .before .before .before .before .before .before .before .is-open .ensures) ∙ not-false _ (c .before .before .before .before .before .before .before .before .before .if1 .left)), search needs, search needs)
+lose-call-requires c κs =
+    let a = c .before .before .before .before .before .before .before .before .before .before .before .before .before .before in
+    (open-within (tableOf (now (a .args .img))) (a .pre .1 .shaped) (a .args .i) (sym (c .before .before .before .before .before .before .before .before .before .before .is-open .ensures) ∙ not-false _ (c .before .before .before .before .before .before .before .before .before .if1 .left)), search needs, search needs)
 
 returns-3 : tie.Need-returns-3
 unfolding ofOpen callWithdrawn

@@ -21,10 +21,17 @@ use Rattle.events.proofs.heard_by.Tie as tie
 
 returns : tie.Need-returns
 unfolding heardBy
-returns c = where-true _ _ _ _ (ap not (hears-by (tableOf (now (c .before .before .before .before .before .before .before .before .before .before .args .img))) (c .before .before .before .before .before .before .before .before .before .before .args .i) _ _ (c .before .before .before .before .before .load-stream .ensures) (c .before .before .before .count-at .ensures) ∙ sym (c .before .before .hears .ensures)) ∙ c .before .if1 .taken) (leaves-refused _ _ _ 8 _ (omega arith) (c .refused .ensures))
+returns c =
+    let a = c .before .before .before .before .before .before .before .before .before .before in
+    where-true _ _ _ _ (ap not (hears-by (tableOf (now (a .args .img))) (a .args .i) _ _ (c .before .before .before .before .before .load-stream .ensures) (c .before .before .before .count-at .ensures) ∙ sym (c .before .before .hears .ensures)) ∙ c .before .if1 .taken)
+    (leaves-refused _ _ _ 8 _ (omega arith) (c .refused .ensures))
 
 ring-requires : tie.Need-ring-requires
-ring-requires c κs = (search needs, search needs, search needs, omega (arith, hears-less (tableOf (now (c .before .before .before .before .before .before .before .before .before .before .before .before .before .before .before .before .args .img))) (c .before .before .before .before .before .before .before .before .before .before .before .before .before .before .before .before .args .i) (hears-by (tableOf (now (c .before .before .before .before .before .before .before .before .before .before .before .before .before .before .before .before .args .img))) (c .before .before .before .before .before .before .before .before .before .before .before .before .before .before .before .before .args .i) _ _ (c .before .before .before .before .before .before .before .before .before .before .before .load-stream .ensures) (c .before .before .before .before .before .before .before .before .before .count-at .ensures) ∙ sym (c .before .before .before .before .before .before .before .before .hears .ensures) ∙ not-false _ (c .before .before .before .before .before .before .before .if1 .left)), c .before .before .before .before .before .before .before .before .before .before .before .before .before .before .before .before .pre .5))
+ring-requires c κs =
+    let a = c .before .before .before .before .before .before .before .before .before .before .before .before .before .before .before .before in
+    let img = now (a .args .img) in
+    let t = tableOf img in
+    (search needs, search needs, search needs, omega (arith, hears-less t (a .args .i) (hears-by t (a .args .i) _ _ (c .before .before .before .before .before .before .before .before .before .before .before .load-stream .ensures) (c .before .before .before .before .before .before .before .before .before .count-at .ensures) ∙ sym (c .before .before .before .before .before .before .before .before .hears .ensures) ∙ not-false _ (c .before .before .before .before .before .before .before .if1 .left)), a .pre .5))
 
 returns-2 : tie.Need-returns-2
 unfolding heardBy rings

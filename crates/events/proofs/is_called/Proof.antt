@@ -10,7 +10,9 @@ use Rattle.events.proofs.is_called.Statement.{statement}
 use Rattle.events.proofs.is_called.Tie as tie
 
 returns : tie.Need-returns
-returns c = c .same-bytes .ensures ∙ ap₂ (λ (l k : List ℕ). sameBytes l k) (sym (take-take 6 7 (now (c .before .before .before .before .before .before .args .addresses)) (omega arith))) (c .before .before .before .mac-of .ensures)
+returns c =
+    let a = c .before .before .before .before .before .before in
+    c .same-bytes .ensures ∙ ap₂ (λ (l k : List ℕ). sameBytes l k) (sym (take-take 6 7 (now (a .args .addresses)) (omega arith))) (c .before .before .before .mac-of .ensures)
 
 pub is-called-spec : {M : Type 1} → statement M
 is-called-spec =

@@ -24,17 +24,26 @@ use Rattle.events.proofs.peer_gone.Tie as tie
 
 returns : tie.Need-returns
 unfolding ofOpen
-returns c = where-true _ _ _ _ (ap not (sym (c .before .before .is-open .ensures)) ∙ c .before .if1 .taken) (leaves-refused _ _ _ 2 _ (omega arith) (c .refused .ensures))
+returns c =
+    where-true _ _ _ _ (ap not (sym (c .before .before .is-open .ensures)) ∙ c .before .if1 .taken)
+    (leaves-refused _ _ _ 2 _ (omega arith) (c .refused .ensures))
 
 load-stream-requires : tie.Need-load-stream-requires
-load-stream-requires c κs = (open-within (tableOf (now (c .before .before .before .before .before .before .args .img))) (c .before .before .before .before .before .before .pre .1 .shaped) (c .before .before .before .before .before .before .args .i) (sym (c .before .before .is-open .ensures) ∙ not-false _ (c .before .if1 .left)), search needs)
+load-stream-requires c κs =
+    let a = c .before .before .before .before .before .before in
+    (open-within (tableOf (now (a .args .img))) (a .pre .1 .shaped) (a .args .i) (sym (c .before .before .is-open .ensures) ∙ not-false _ (c .before .if1 .left)), search needs)
 
 returns-2 : tie.Need-returns-2
 unfolding ofOpen eventRow peerGone
-returns-2 c = where-false _ _ _ _ (ap not (sym (c .before .before .before .before .before .before .is-open .ensures)) ∙ c .before .before .before .before .before .if1 .left) (where-false _ _ _ _ (ap (λ (s : Stream). has (number s) (8 ∷ 11 ∷ 12 ∷ 13 ∷ [])) (sym (c .before .before .before .load-stream .ensures)) ∙ sym (c .before .before .is-calling .ensures) ∙ not-true _ (c .before .if2 .taken)) (leaves-refused _ _ _ 6 _ (omega arith) (c .refused2 .ensures)))
+returns-2 c =
+    where-false _ _ _ _ (ap not (sym (c .before .before .before .before .before .before .is-open .ensures)) ∙ c .before .before .before .before .before .if1 .left)
+    (where-false _ _ _ _ (ap (λ (s : Stream). has (number s) (8 ∷ 11 ∷ 12 ∷ 13 ∷ [])) (sym (c .before .before .before .load-stream .ensures)) ∙ sym (c .before .before .is-calling .ensures) ∙ not-true _ (c .before .if2 .taken))
+    (leaves-refused _ _ _ 6 _ (omega arith) (c .refused2 .ensures)))
 
 is-in-requires : tie.Need-is-in-requires
-is-in-requires c κs = (open-within (tableOf (now (c .before .before .before .before .before .before .before .before .before .before .args .img))) (c .before .before .before .before .before .before .before .before .before .before .pre .1 .shaped) (c .before .before .before .before .before .before .before .before .before .before .args .i) (sym (c .before .before .before .before .before .before .is-open .ensures) ∙ not-false _ (c .before .before .before .before .before .if1 .left)), search needs)
+is-in-requires c κs =
+    let a = c .before .before .before .before .before .before .before .before .before .before in
+    (open-within (tableOf (now (a .args .img))) (a .pre .1 .shaped) (a .args .i) (sym (c .before .before .before .before .before .before .is-open .ensures) ∙ not-false _ (c .before .before .before .before .before .if1 .left)), search needs)
 
 returns-3 : tie.Need-returns-3
 unfolding ofOpen eventRow peerGone

@@ -9,7 +9,11 @@ use Rattle.rows.proofs.perform.Tie as tie
 
 returns : tie.Need-returns
 unfolding performed
-returns c = leaves-served (now (c .before .before .before .before .before .before .before .before .before .before .before .before .args .img)) (now (c .before .before .before .before .before .before .before .before .before .before .before .before .args .room)) (tableAfter (tableOf (now (c .before .before .before .before .before .before .before .before .before .before .before .before .args .img))) (c .before .before .before .before .before .before .before .before .before .before .before .before .args .i) (c .before .before .before .before .before .before .before .before .before .before .before .before .args .row)) (recordsOf (tableOf (now (c .before .before .before .before .before .before .before .before .before .before .before .before .args .img))) (c .before .before .before .before .before .before .before .before .before .before .before .before .args .i) (now (c .before .before .before .before .before .before .before .before .before .before .before .before .args .m)) (c .before .before .before .before .before .before .before .before .before .before .before .before .args .row)) _ _ _ (c .before .before .before .before .before .before .put-records .ensures .0) (c .before .before .change-table .ensures) (c .before .before .before .before .before .before .put-records .ensures .2)
+returns c =
+    let a = c .before .before .before .before .before .before .before .before .before .before .before .before in
+    let img = now (a .args .img) in
+    let t = tableOf img in
+    leaves-served img (now (a .args .room)) (tableAfter t (a .args .i) (a .args .row)) (recordsOf t (a .args .i) (now (a .args .m)) (a .args .row)) _ _ _ (c .before .before .before .before .before .before .put-records .ensures .0) (c .before .before .change-table .ensures) (c .before .before .before .before .before .before .put-records .ensures .2)
 
 pub perform-spec : {M : Type 1} → statement M
 perform-spec =

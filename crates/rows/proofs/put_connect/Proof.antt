@@ -11,10 +11,15 @@ use Rattle.rows.proofs.put_connect.Statement.{statement}
 use Rattle.rows.proofs.put_connect.Tie as tie
 
 put-connect-requires : tie.Need-put-connect-requires
-put-connect-requires c κs = (rw (c .address-in .ensures) (part-most (now (c .before .before .before .before .args .m)) (c .before .before .before .before .args .at) 7), search needs)
+put-connect-requires c κs =
+    let a = c .before .before .before .before in
+    (rw (c .address-in .ensures) (part-most (now (a .args .m)) (a .args .at) 7), search needs)
 
 returns : tie.Need-returns
-returns c = (same-long (order (lineOrder.Connect (c .before .before .before .before .before .before .before .args .i)) (now (c .before .before .before .address-in .result))) _ (ap (λ (l : List ℕ). order (lineOrder.Connect (c .before .before .before .before .before .before .before .args .i)) l) (c .before .before .before .address-in .ensures)) _ (c .before .before .put-connect .ensures .0), omega (arith, c .before .before .put-connect .ensures .1), same-over (order (lineOrder.Connect (c .before .before .before .before .before .before .before .args .i)) (now (c .before .before .before .address-in .result))) _ (ap (λ (l : List ℕ). order (lineOrder.Connect (c .before .before .before .before .before .before .before .args .i)) l) (c .before .before .before .address-in .ensures)) (now (c .before .before .before .before .before .before .before .args .room)) _ (c .before .before .put-connect .ensures .2))
+returns c =
+    let a = c .before .before .before .before .before .before .before in
+    let i = a .args .i in
+    (same-long (order (lineOrder.Connect i) (now (c .before .before .before .address-in .result))) _ (ap (λ (l : List ℕ). order (lineOrder.Connect i) l) (c .before .before .before .address-in .ensures)) _ (c .before .before .put-connect .ensures .0), omega (arith, c .before .before .put-connect .ensures .1), same-over (order (lineOrder.Connect i) (now (c .before .before .before .address-in .result))) _ (ap (λ (l : List ℕ). order (lineOrder.Connect i) l) (c .before .before .before .address-in .ensures)) (now (a .args .room)) _ (c .before .before .put-connect .ensures .2))
 
 pub put-connect-spec : {M : Type 1} → statement M
 put-connect-spec =

@@ -8,7 +8,9 @@ use Rattle.rows.proofs.put_order.Statement.{statement}
 use Rattle.rows.proofs.put_order.Tie as tie
 
 returns : tie.Need-returns
-returns c = (same-long (order (c .before .before .before .before .before .args .o) []) _ refl _ (c .before .before .put-order .ensures .0), c .before .before .put-order .ensures .1, same-over (order (c .before .before .before .before .before .args .o) []) _ refl (now (c .before .before .before .before .before .args .room)) _ (c .before .before .put-order .ensures .2))
+returns c =
+    let a = c .before .before .before .before .before in
+    (same-long (order (a .args .o) []) _ refl _ (c .before .before .put-order .ensures .0), c .before .before .put-order .ensures .1, same-over (order (a .args .o) []) _ refl (now (a .args .room)) _ (c .before .before .put-order .ensures .2))
 
 pub put-order-spec : {M : Type 1} → statement M
 put-order-spec = tie.close (tie.spec (λ c κs. search needs) (λ c. search needs) returns)

@@ -10,7 +10,10 @@ use Rattle.rows.proofs.put_reply.Statement.{statement}
 use Rattle.rows.proofs.put_reply.Tie as tie
 
 returns : tie.Need-returns
-returns c = (same-long (up (c .before .before .before .before .before .before .args .i) (c .before .before .before .before .before .before .args .reply) []) _ refl _ (c .before .before .put-up .ensures .0 ∙ sym (up-length (c .before .before .before .before .before .before .args .i) (c .before .before .before .before .before .before .args .reply) [] (search needs))), omega (arith, c .before .before .put-up .ensures .0), same-over (up (c .before .before .before .before .before .before .args .i) (c .before .before .before .before .before .before .args .reply) []) _ refl (now (c .before .before .before .before .before .before .args .room)) _ (c .before .before .put-up .ensures .1))
+returns c =
+    let a = c .before .before .before .before .before .before in
+    let i = a .args .i in
+    (same-long (up i (a .args .reply) []) _ refl _ (c .before .before .put-up .ensures .0 ∙ sym (up-length i (a .args .reply) [] (search needs))), omega (arith, c .before .before .put-up .ensures .0), same-over (up i (a .args .reply) []) _ refl (now (a .args .room)) _ (c .before .before .put-up .ensures .1))
 
 pub put-reply-spec : {M : Type 1} → statement M
 put-reply-spec = tie.close (tie.spec (λ c. search needs) (λ c κs. search needs) (λ c. search needs) returns)
