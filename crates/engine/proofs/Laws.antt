@@ -9,7 +9,7 @@ use lib.Seq.{take-at, drop-at}
 use lib.Dec.{eqb, ltb, leb}
 use borrow.Author.Tests.{eqb-true, leb-true}
 use Rattle.ledger.specs.Choice.{pick, both, either, _⇒_∣_}
-use Rattle.ledger.proofs.Tallies.{both-of, all-at}
+use Rattle.ledger.proofs.Tallies.{both-of, skip, all-at}
 use Rattle.octets.specs.Runs.{part}
 use Rattle.paper.specs.Base.{isBound, Slot, closed, Table, slot, stream, ppaNumbers}
 use Rattle.paper.specs.RecordsIn.{inputOf}
@@ -69,11 +69,6 @@ pub other-seven : (r : List ℕ) → 19 ≤ length r → drop 7 (part r 5 14) �
 other-seven r h = ap (drop 7) (part-add r 5 7 7) ∙ drop-at (part r 5 7) (part r 12 7) 7 (part-length r 5 7 (omega arith))
 
 -- ---- the call
-
--- a test that fails leads to what follows
-skip {ℓ} : {A : Type ℓ} (b : Bool) (x y : A) → b ≡ false → (b ⇒ x ∣ y) ≡ y
-unfolding _⇒_∣_
-skip b x y e = rw e
 
 -- on a sound image it is what the record comes to
 pub call-on : (img r room : List ℕ) → soundImage img ≡ true

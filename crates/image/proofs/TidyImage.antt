@@ -2,13 +2,14 @@
 use Prim.Native.Nat.{ℕ, zero, suc, _+_, _-_, _*_, _≤_, _<_}
 use native.Mathlib.Omega.{arith}
 use mathlib.Core.Path.{_≡_, refl, sym, ap, _∙_}
-use mathlib.Core.Bool.{Bool, true, false, false≢true}
+use mathlib.Core.Bool.{Bool, true}
 use mathlib.Core.List.{List, [], _∷_}
 use lib.ListN.{length, getD}
 use lib.Dec.{eqb, ltb, leb}
 use borrow.Author.Tests.{ltb-true, leb-true, eqb-true}
 use Rattle.ledger.specs.Choice.{both}
 use Rattle.ledger.specs.Tally.{allOf}
+use Rattle.ledger.proofs.Tallies.{both-of}
 use Rattle.octets.specs.Numbers.{be32At}
 use Rattle.octets.specs.Runs.{part, allZero}
 use Rattle.paper.specs.Base.{Slot, closed, noPpa}
@@ -34,19 +35,15 @@ pub record Tidy (img : List ℕ) : Type 0 where
   pub unused : allZero (part img (ppaBase (getD img 3 0)) (80 - getD img 3 0 * 10)) ≡ true
   pub slots : (i : ℕ) → i < 16 → TidySlot (part img (slotBase i) 42)
 
-both-true : (a b : Bool) → both a b ≡ true → (a ≡ true) × (b ≡ true)
-both-true true b h = (refl, h)
-both-true false b h = absurd (false≢true h)
-
 all-at : {A : Type 0} (p : A → Bool) (l : List A) (k : ℕ) (d : A) → allOf p l ≡ true → k < length l → p (getD l k d) ≡ true
 all-at p [] k d h b = absurd (omega arith)
-all-at p (x ∷ l) zero d h b = both-true (p x) (allOf p l) h .0
-all-at p (x ∷ l) (suc k) d h b = all-at p l k d (both-true (p x) (allOf p l) h .1) (omega arith)
+all-at p (x ∷ l) zero d h b = both-of (p x) (allOf p l) h .0
+all-at p (x ∷ l) (suc k) d h b = all-at p l k d (both-of (p x) (allOf p l) h .1) (omega arith)
 
 bytes-below : (l : List ℕ) → areBytes l ≡ true → (k : ℕ) → getD l k 0 < 256
 bytes-below [] h k = omega arith
-bytes-below (x ∷ l) h zero = ltb-true x 256 (both-true (ltb x 256) (areBytes l) h .0)
-bytes-below (x ∷ l) h (suc k) = bytes-below l (both-true (ltb x 256) (areBytes l) h .1) k
+bytes-below (x ∷ l) h zero = ltb-true x 256 (both-of (ltb x 256) (areBytes l) h .0)
+bytes-below (x ∷ l) h (suc k) = bytes-below l (both-of (ltb x 256) (areBytes l) h .1) k
 
 slot-passes : (img : List ℕ) (i : ℕ) → i < 16 → allOf tidySlot (slotParts img) ≡ true → tidySlot (part img (slotBase i) 42) ≡ true
 slot-passes img i b h =
@@ -59,8 +56,8 @@ unfolding tidySlot
 slot-parts c h =
     let n : ℕ = getD c 9 0 in
     let z : Bool = allZero (part c (n * 4 + 10) (32 - n * 4)) in
-    let a = both-true (isState (getD c 0 0)) (both (leb n 8) z) h in
-    let b = both-true (leb n 8) z (a .1) in
+    let a = both-of (isState (getD c 0 0)) (both (leb n 8) z) h in
+    let b = both-of (leb n 8) z (a .1) in
     record { state = a .0; eight = leb-true n 8 (b .0); unused = b .1 }
 
 -- an image that passes the test has those parts
@@ -70,11 +67,11 @@ tidy-parts img h =
     let n : ℕ = getD img 3 0 in
     let z : Bool = allZero (part img (ppaBase n) (80 - n * 10)) in
     let rest : Bool = allOf tidySlot (slotParts img) in
-    let a = both-true (eqb (length img) imageSize) (both (areBytes img) (both (leb (getD img 2 0) 1) (both (tidyPpas img) rest))) h in
-    let e = both-true (areBytes img) (both (leb (getD img 2 0) 1) (both (tidyPpas img) rest)) (a .1) in
-    let b = both-true (leb (getD img 2 0) 1) (both (tidyPpas img) rest) (e .1) in
-    let c = both-true (tidyPpas img) rest (b .1) in
-    let d = both-true (leb n 8) z (c .0) in
+    let a = both-of (eqb (length img) imageSize) (both (areBytes img) (both (leb (getD img 2 0) 1) (both (tidyPpas img) rest))) h in
+    let e = both-of (areBytes img) (both (leb (getD img 2 0) 1) (both (tidyPpas img) rest)) (a .1) in
+    let b = both-of (leb (getD img 2 0) 1) (both (tidyPpas img) rest) (e .1) in
+    let c = both-of (tidyPpas img) rest (b .1) in
+    let d = both-of (leb n 8) z (c .0) in
     record {
       size = eqb-true (length img) 760 (a .0);
       bytes = bytes-below img (e .0);

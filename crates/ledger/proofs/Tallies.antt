@@ -22,6 +22,15 @@ pub to-both : (a b : Bool) → a ≡ true → b ≡ true → both a b ≡ true
 to-both true b e f = f
 to-both false b e f = e
 
+pub both-true : (b : Bool) → both b true ≡ b
+both-true true = refl
+both-true false = refl
+
+-- a test that fails leads to what follows
+pub skip {ℓ} : {A : Type ℓ} (b : Bool) (x y : A) → b ≡ false → (b ⇒ x ∣ y) ≡ y
+unfolding _⇒_∣_
+skip b x y e = rw e
+
 -- what is picked has what both have, each where it is picked
 pub picked {ℓ} : {A : Type ℓ} (P : A → Type 0) (b : Bool) (x y : A) → (b ≡ true → P x) → (b ≡ false → P y) → P (pick b x y)
 picked P true x y f g = f refl

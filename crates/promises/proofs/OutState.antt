@@ -2,14 +2,14 @@
 -- if an accept, with no earlier error in the paper's order, offers another stream that isn't idle."
 use Prim.Native.Nat.{ℕ, _+_}
 use mathlib.Core.Path.{_≡_, refl, sym, ap, _∙_}
-use mathlib.Core.Bool.{Bool, true, false, not, false≢true}
+use mathlib.Core.Bool.{Bool, true, false, not}
 use mathlib.Core.List.{List}
 use lib.ListN.{length}
 use lib.Dec.{eqb, ltb}
 use borrow.Author.Tests.{le-ltb, not-true, not-false}
 use Rattle.ledger.specs.Choice.{both, either, _⇒_∣_}
 use Rattle.ledger.specs.Tally.{oneIf, has}
-use Rattle.ledger.proofs.Tallies.{chosen}
+use Rattle.ledger.proofs.Tallies.{skip, chosen}
 use Rattle.paper.specs.Base.{isIn, Table, slot, stream, waiting}
 use Rattle.paper.specs.RecordsIn.{inputOf, messageIn}
 use Rattle.paper.specs.Refusals.{Outcome}
@@ -101,24 +101,18 @@ outState-exactly t i q = chosen P _ _ _ (λ e. rw e) (λ e. rw e (says-served t 
 
 -- ---- from a call to the verdict on its message
 
--- a test that fails leads to what follows
-skip {ℓ} : {A : Type ℓ} (b : Bool) (x : A) {y : A} → b ≡ false → (b ⇒ x ∣ y) ≡ y
-unfolding _⇒_∣_
-skip true x e = absurd (false≢true (sym e))
-skip false x e = refl
-
 -- A complete message that we serve is answered by the verdict on it: refusals 16, 10, 1, 2, 5 and 4 do not apply.
 pub answers : (t : Table) → sound t ≡ true → (r : List ℕ) (room i : ℕ) (q : Request) → (c : Complete t r room i q)
     → step t r room ≡ answered t i (messageIn r (c .size)) (judge t i q)
 unfolding step ofOpen message
 answers t s r room i q c =
-    skip (not (sound t)) _ (ap not s)
-    ∙ skip (not (isReadable (inputOf r))) _ (ap (λ (p : Input). not (isReadable p)) (c .read))
-    ∙ skip (ltb room 128) _ (le-ltb _ _ (c .roomy))
+    skip (not (sound t)) _ _ (ap not s)
+    ∙ skip (not (isReadable (inputOf r))) _ _ (ap (λ (p : Input). not (isReadable p)) (c .read))
+    ∙ skip (ltb room 128) _ _ (le-ltb _ _ (c .roomy))
     ∙ ap (serve t r) (c .read)
-    ∙ skip (not (slot t i .isOpen)) _ (ap not (c .isOpen))
-    ∙ skip (ltb 96 (c .size)) _ (le-ltb _ _ (c .whole))
-    ∙ skip (ltb (c .size) 4) _ (le-ltb _ _ (c .coded))
+    ∙ skip (not (slot t i .isOpen)) _ _ (ap not (c .isOpen))
+    ∙ skip (ltb 96 (c .size)) _ _ (le-ltb _ _ (c .whole))
+    ∙ skip (ltb (c .size) 4) _ _ (le-ltb _ _ (c .coded))
     ∙ ap (λ (a : Asked). answered t i (messageIn r (c .size)) (verdictOn t i a)) (c .asks)
 
 -- an answer tells the error of its verdict

@@ -16,10 +16,6 @@ use Rattle.paper.specs.declared.State.{State}
 use Rattle.paper.specs.declared.State.the-variants.{Unattached, Unbound, Idle, OutconPending, InconPending, DataXfer, UserResetPending, ProvResetPending}
 
 -- ---- tests
-pub both-true : (b : Bool) → both b true ≡ b
-both-true true = refl
-both-true false = refl
-
 pub either-false : (b : Bool) → either b false ≡ b
 either-false true = refl
 either-false false = refl

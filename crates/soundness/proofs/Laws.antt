@@ -29,10 +29,6 @@ told {r} e h = sym e ∙ not-false r h
 pub told-not : {r b : Bool} → r ≡ b → not r ≡ true → b ≡ false
 told-not {r} e h = sym e ∙ not-true r h
 
-pub both-true : (b : Bool) → both b true ≡ b
-both-true true = refl
-both-true false = refl
-
 pub both-assoc : (a b c : Bool) → both (both a b) c ≡ both a (both b c)
 both-assoc true b c = refl
 both-assoc false b c = refl

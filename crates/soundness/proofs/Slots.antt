@@ -10,7 +10,7 @@ use native.Mathlib.Omega.{arith}
 use borrow.Author.Tests.{eqb-true, eq-eqb, ne-eqb, lt-ltb, le-leb}
 use Rattle.ledger.specs.Choice.{both, pick}
 use Rattle.ledger.specs.Tally.{oneIf, occ, allOf}
-use Rattle.ledger.proofs.Tallies.{both-of, to-both, chosen, all-at, empty}
+use Rattle.ledger.proofs.Tallies.{both-of, to-both, chosen, all-at, empty, both-true}
 use Rattle.octets.specs.Numbers.{be32At}
 use Rattle.octets.specs.Runs.{part, allZero}
 use Rattle.octets.proofs.Laws.{be32At-be32, zero-replicate}
@@ -28,7 +28,7 @@ use Rattle.image.proofs.Shapes.{slots-wide, header-length}
 use Rattle.image.proofs.TableBack.{be32At-part}
 use Rattle.image.proofs.Lending.{lent-tidy}
 use Rattle.lookup.proofs.Laws.{ppa-place}
-use Rattle.soundness.proofs.Laws.{both-true, both-assoc, same-test, map-at, all-both}
+use Rattle.soundness.proofs.Laws.{both-assoc, same-test, map-at, all-both}
 use Rattle.soundness.specs.Groups.{isAttachedRight, isBoundRight, isCountRight, isStreamSound}
 
 -- ---- states

@@ -3,7 +3,8 @@ use native.Mathlib.Omega.{arith}
 use borrow.Author.Needs.{needs}
 use borrow.Author.Tests.{lt-ltb, le-ltb, lt-leb, le-leb}
 use Rattle.paper.specs.Sound.{every, unbound}
-use Rattle.soundness.proofs.Laws.{told, told-not, both-true}
+use Rattle.soundness.proofs.Laws.{told, told-not}
+use Rattle.ledger.proofs.Tallies.{both-true}
 use Rattle.soundness.specs.Groups.{isBoundRight}
 use Rattle.soundness.proofs.is_bound_right.Statement.{statement}
 use Rattle.soundness.proofs.is_bound_right.Tie as tie

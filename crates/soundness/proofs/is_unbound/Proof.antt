@@ -3,7 +3,7 @@ use mathlib.Core.Bool.{Bool, true}
 use lib.Dec.{eqb}
 use borrow.Author.Tests.{eq-eqb, ne-eqb}
 use Rattle.ledger.specs.Choice.{both}
-use Rattle.soundness.proofs.Laws.{both-true}
+use Rattle.ledger.proofs.Tallies.{both-true}
 use Rattle.soundness.proofs.is_unbound.Statement.{statement}
 use Rattle.soundness.proofs.is_unbound.Tie as tie
 

@@ -1,7 +1,7 @@
 use borrow.Author.Tests.{lt-leb, le-leb}
 use lib.Dec.{leb}
 use Rattle.paper.specs.Saps.{isType}
-use Rattle.rules.proofs.Laws.{both-true}
+use Rattle.ledger.proofs.Tallies.{both-true}
 use Rattle.rules.proofs.saps.is_type.Statement.{statement}
 use Rattle.rules.proofs.saps.is_type.Tie as tie
 
