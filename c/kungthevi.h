@@ -1,0 +1,144 @@
+/*
+ * kungthevi.h - a DLPI provider whose every answer is proved.
+ *
+ * Link libkungthevi.a. It needs no other library, keeps nothing between two
+ * calls and takes no memory: the caller owns the table of streams as a run of
+ * KUNGTHEVI_TABLE_SIZE bytes and lends it to each call. Two threads may call at
+ * once with two tables.
+ *
+ * Every call returns, whatever it is lent. What C itself asks still holds: a
+ * pointer and its length name memory of the caller's, and the runs lent to one
+ * call do not overlap. They may stand at any address, and a pointer may be NULL
+ * where its length is 0.
+ *
+ * Example: opens a stream of a fresh table.
+ *
+ *     #include <stdio.h>
+ *     #include "kungthevi.h"
+ *
+ *     int main(void)
+ *     {
+ *         uint8_t table[KUNGTHEVI_TABLE_SIZE], room[KUNGTHEVI_ROOM_SIZE];
+ *         const uint8_t record[] = { 'O' };
+ *         kungthevi_fresh(table, sizeof table);
+ *         uint32_t answer = kungthevi_call(table, sizeof table, record, sizeof record, room, sizeof room);
+ *         if (KUNGTHEVI_REFUSAL(answer) != 0)
+ *             return 1;
+ *         printf("stream %u is open\n", (unsigned)KUNGTHEVI_STREAM(answer));
+ *     }
+ */
+#ifndef KUNGTHEVI_H
+#define KUNGTHEVI_H
+
+#include <stddef.h>
+#include <stdint.h>
+
+#ifdef __cplusplus
+extern "C" {
+#endif
+
+/* The bytes of a table, no more and no fewer. docs/IMAGE.md says what each holds. */
+#define KUNGTHEVI_TABLE_SIZE 760
+
+/* The room that a call needs, however little it writes. A longer room is served too. */
+#define KUNGTHEVI_ROOM_SIZE 128
+
+/*
+ * Makes a fresh table: no PPA, no open stream, correlation numbers from 1.
+ * Returns 0. Where table_len is not KUNGTHEVI_TABLE_SIZE it returns
+ * KUNGTHEVI_NOT_SOUND and the bytes stay as they stood.
+ */
+uint32_t kungthevi_fresh(uint8_t *table, size_t table_len);
+
+/*
+ * One call: reads the one record at the start of the lent bytes, changes the
+ * table and writes the records out into the room, right behind one another from
+ * its start. The room's other bytes stay. Bytes behind the record are not read.
+ *
+ * Records in, by their first byte; numbers are big-endian:
+ *   'G' add PPA          number 4, MAC 6
+ *   'O' open             nothing
+ *   'X' close            stream 1
+ *   'P', 'C' message     stream 1, length L 1, 96 bytes of block, zero past L
+ *   'I' call arrives     PPA 4, called 7, calling 7
+ *   'A' peer accepted    stream 1, address 7
+ *   'D' peer gone        stream 1, reason 4
+ *   'W' call withdrawn   stream 1, correlation 4, reason 4
+ *   'R' peer reset       stream 1, reason 4
+ *   'S' reset confirmed  stream 1
+ * Records out:
+ *   'P', 'C' message up  stream 1, length L 1, 96 bytes of block, zero past L
+ *   'F' flush queues     stream 1
+ *   'c' connect          stream 1, called 7
+ *   'a' accept           carrying stream 1, correlation 4
+ *   'd' disconnect       stream 1, correlation 4, reason 4
+ *   'r' reset            stream 1
+ *   's' reset answer     stream 1
+ *
+ * The number returned is taken apart by the macros below it. A refused call
+ * writes nothing: table and room are as they were. A message that breaks a rule
+ * of DLPI is not refused: it is served, and its answer is a DL_ERROR_ACK with
+ * one of the error codes below.
+ */
+uint32_t kungthevi_call(uint8_t *table, size_t table_len,
+                        const uint8_t *record, size_t record_len,
+                        uint8_t *room, size_t room_len);
+
+/* The refusal number, 0 if the call was served. */
+#define KUNGTHEVI_REFUSAL(answer) ((uint32_t)(answer) >> 16 & 0xff)
+
+/* How many bytes of records stand at the start of the room; 0 if refused. */
+#define KUNGTHEVI_WRITTEN(answer) ((uint32_t)(answer) & 0xffff)
+
+/* The token of the stream that a served 'O' opened; 0 for any other call. */
+#define KUNGTHEVI_TOKEN(answer) ((uint32_t)(answer) >> 24)
+
+/* The number of that stream. Only where KUNGTHEVI_TOKEN is not 0. */
+#define KUNGTHEVI_STREAM(answer) (KUNGTHEVI_TOKEN(answer) - 1)
+
+/*
+ * How far reading goes on: the size of the record at the start of the lent
+ * bytes, its kind included, or 0 where reading ends there (no bytes, unknown
+ * kind or cut body). A record of that size may still be refused.
+ */
+uint32_t kungthevi_record_size(const uint8_t *record, size_t record_len);
+
+/*
+ * The refusal numbers. Where several apply, the first in the order 16, 10, 1,
+ * 2, 5, 4, then the others; of 7 and 8, 7.
+ */
+#define KUNGTHEVI_LITTLE_ROOM   1  /* room under KUNGTHEVI_ROOM_SIZE */
+#define KUNGTHEVI_NOT_OPEN      2  /* stream over 15, or not open */
+#define KUNGTHEVI_ALL_OPEN      3  /* open, and all 16 streams are open */
+#define KUNGTHEVI_NO_CODE       4  /* message with L under 4 */
+#define KUNGTHEVI_OVER_LONG     5  /* message with L over 96 */
+#define KUNGTHEVI_UNEXPECTED    6  /* 'A', 'D', 'R' or 'S' in a state without a row for it;
+                                      'W' whose number is not open on that stream */
+#define KUNGTHEVI_NOBODY_THERE  7  /* 'I' whose PPA is unknown, whose called MAC is not that PPA's,
+                                      or for whose PPA and SAP nobody listens */
+#define KUNGTHEVI_BUSY          8  /* 'I' whose listener is neither idle nor ringing, or has its granted
+                                      count open */
+#define KUNGTHEVI_NO_NEW_PPA    9  /* 'G' after any opening, or a ninth PPA, or a number already there */
+#define KUNGTHEVI_NOT_A_RECORD 10  /* no bytes, unknown kind or cut body, or nonzero bytes of a block past L */
+#define KUNGTHEVI_NOT_SOUND    16  /* a table of another length, or whose bytes are not those of a sound table */
+
+/* The error codes of DL_ERROR_ACK: the number in bytes 8 to 11 of its block. */
+#define KUNGTHEVI_DL_BADADDR      0x01  /* address or SAP not allowed */
+#define KUNGTHEVI_DL_ACCESS       0x02  /* the carrying stream is of another PPA or connectionless */
+#define KUNGTHEVI_DL_OUTSTATE     0x03  /* no row for this message in the stream's state */
+#define KUNGTHEVI_DL_BADCORR      0x05  /* the correlation number is not open here */
+#define KUNGTHEVI_DL_UNSUPPORTED  0x07  /* mode, connection management or type not supported */
+#define KUNGTHEVI_DL_BADPPA       0x08  /* unknown PPA */
+#define KUNGTHEVI_DL_BADPRIM      0x09  /* no request, or too short for one */
+#define KUNGTHEVI_DL_BADQOSTYPE   0x0b  /* quality of service asked */
+#define KUNGTHEVI_DL_BADTOKEN     0x0c  /* token of no open stream */
+#define KUNGTHEVI_DL_BOUND        0x0d  /* another stream listens for that PPA and SAP */
+#define KUNGTHEVI_DL_NOTSUPPORTED 0x12  /* a request that this provider does not serve */
+#define KUNGTHEVI_DL_NOAUTO       0x16  /* automatic XID or TEST asked */
+#define KUNGTHEVI_DL_PENDING      0x1b  /* others are open: this stream cannot carry the call itself */
+
+#ifdef __cplusplus
+}
+#endif
+
+#endif
