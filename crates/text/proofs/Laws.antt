@@ -1,0 +1,110 @@
+-- Laws of digits, and of text written piece by piece.
+use Prim.Native.Nat.{ℕ, zero, suc, _+_, _-_, _*_, _/_, _%_, _^_, _≤_, _<_}
+use native.Mathlib.Omega.{arith}
+use native.Mathlib.Numerals.{add-one}
+use mathlib.Core.Path.{_≡_, refl, sym, ap, _∙_}
+use mathlib.Core.List.{List, [], _∷_, _++_, append-assoc, append-nil}
+use mathlib.Core.Bool.{Bool, true, false}
+use lib.Dec.{ltb}
+use lib.ListN.{length, getD, set, take, drop, length-set, length-append, drop-of-length-le, take-append-drop}
+use lib.Seq.{take-suc, drop-cons, drop-set-lt, getD-set-same}
+use borrow.Author.Tests.{lt-ltb, le-ltb}
+use Rattle.ledger.specs.Choice.{pick}
+use Rattle.octets.specs.Runs.{paste}
+use Rattle.octets.proofs.Laws.{paste-join, paste-length}
+use Rattle.text.specs.Digits.{digit, digits, decimal, hex}
+
+-- ---- decimal
+
+-- a number of two digits or more
+pub two-places : (k n : ℕ) → 10 ≤ n → n < 10 ^ k → 2 ≤ k
+two-places zero n a b = omega arith
+two-places (suc zero) n a b = omega arith
+two-places (suc (suc k)) n a b = omega arith
+
+-- has one fewer without its last
+pub tenth : (k n : ℕ) → 1 ≤ k → n < 10 ^ k → n / 10 < 10 ^ (k - 1)
+tenth zero n a h = omega arith
+tenth (suc k) n a h =
+    let e : suc k - 1 ≡ k = omega arith in
+    rw e (omega (arith, h))
+
+-- what stands from a byte on that was just set
+set-begins : (l : List ℕ) (m v : ℕ) → m < length l → drop m (set l m v) ≡ v ∷ drop (suc m) l
+set-begins l m v h =
+    drop-cons (set l m v) m 0 (simp length-set h)
+    ∙ ap (λ (x : ℕ). x ∷ drop (suc m) (set l m v)) (getD-set-same l m v 0 h)
+    ∙ ap (λ (r : List ℕ). v ∷ r) (drop-set-lt (suc m) l m v (omega arith))
+
+-- none stand there at first
+pub digits-none : (n : ℕ) (l : List ℕ) → length l ≤ 20 → digits 20 n ++ drop 20 l ≡ decimal n
+unfolding decimal
+digits-none n l h = ap (λ (r : List ℕ). digits 20 n ++ r) (drop-of-length-le l h) ∙ append-nil (digits 20 n)
+
+-- one digit more before those that stand there already
+pub digit-before : (k n : ℕ) (l : List ℕ) → 10 ≤ n → 1 ≤ k → k ≤ length l
+    → digits (k - 1) (n / 10) ++ drop (k - 1) (set l (k - 1) (48 + n % 10)) ≡ digits k n ++ drop k l
+unfolding digits
+digit-before zero n l a b h = absurd (omega (arith, b))
+digit-before (suc m) n l a b h =
+    let e : suc m - 1 ≡ m = omega arith in
+    rw (e, le-ltb n 10 a) (ap (λ (r : List ℕ). digits m (n / 10) ++ r) (set-begins l m (48 + n % 10) (omega arith))
+    ∙ sym (append-assoc (digits m (n / 10)) ((48 + n % 10) ∷ []) (drop (suc m) l)))
+
+-- the first digit before the others
+pub digit-first : (k n : ℕ) (l : List ℕ) → n < 10 → 1 ≤ k → k ≤ length l → drop (k - 1) (set l (k - 1) (48 + n)) ≡ digits k n ++ drop k l
+unfolding digits
+digit-first zero n l a b h = absurd (omega (arith, b))
+digit-first (suc m) n l a b h =
+    let e : suc m - 1 ≡ m = omega arith in
+    rw (e, lt-ltb n 10 a) (set-begins l m (48 + n) (omega arith))
+
+-- a number has at most so many digits
+either-most : (b : Bool) (x y : List ℕ) (k : ℕ) → length x ≤ k → length y ≤ k → length (pick b x y) ≤ k
+either-most true x y k f g = f
+either-most false x y k f g = g
+
+digits-most : (k n : ℕ) → length (digits k n) ≤ k
+unfolding digits
+digits-most zero n = omega arith
+digits-most (suc k) n =
+    either-most (ltb n 10) ((48 + n) ∷ []) (digits k (n / 10) ++ ((48 + n % 10) ∷ [])) (suc k) (omega arith)
+    (omega (arith, digits-most k (n / 10), length-append (digits k (n / 10)) ((48 + n % 10) ∷ [])))
+
+pub decimal-most : (n : ℕ) → length (decimal n) ≤ 20
+unfolding decimal
+decimal-most n = digits-most 20 n
+
+-- ---- hex
+
+-- two digits for each byte
+pub hex-length : (l : List ℕ) → length (hex l) ≡ 2 * length l
+hex-length [] = refl
+hex-length (b ∷ l) = omega (arith, hex-length l)
+
+hex-append : (l : List ℕ) (b : ℕ) → hex (l ++ (b ∷ [])) ≡ hex l ++ (digit (b / 16) ∷ digit (b % 16) ∷ [])
+hex-append [] b = refl
+hex-append (x ∷ l) b = ap (λ (r : List ℕ). digit (x / 16) ∷ digit (x % 16) ∷ r) (hex-append l b)
+
+pub hex-next : (l : List ℕ) (i : ℕ) → i < length l → hex (take (i + 1) l) ≡ hex (take i l) ++ (digit (getD l i 0 / 16) ∷ digit (getD l i 0 % 16) ∷ [])
+hex-next l i h = ap (λ (k : ℕ). hex (take k l)) (add-one i) ∙ ap hex (take-suc l i 0 h) ∙ hex-append (take i l) (getD l i 0)
+
+-- ---- one piece of text behind another
+
+pub then : {y z : List ℕ} {r : ℕ} (x : List ℕ) (at : ℕ) (p q : List ℕ) → at ≤ length x → y ≡ paste x at p → r ≡ at + length p → z ≡ paste y r q → z ≡ paste x at (p ++ q)
+then x at p q h a b c = c ∙ rw (a, b) (sym (paste-join x at p q h))
+
+-- with the places behind them
+pub after : {y z : List ℕ} {r e : ℕ} (x : List ℕ) (at : ℕ) (p q : List ℕ) → at ≤ length x
+    → (r ≡ at + length p) × (y ≡ paste x at p)
+    → (e ≡ r + length q) × (z ≡ paste y r q)
+    → (e ≡ at + length (p ++ q)) × (z ≡ paste x at (p ++ q))
+after x at p q h a b = (omega (arith, a .0, b .0, length-append p q), then x at p q h (a .1) (a .0) (b .1))
+
+-- nothing written
+pub paste-nothing : (x : List ℕ) (at : ℕ) → paste x at [] ≡ x
+paste-nothing x at =
+    let e : at + 0 ≡ at = omega arith in
+    ap (λ (l : List ℕ). l ++ drop (at + 0) x) (append-nil (take at x))
+    ∙ ap (λ (k : ℕ). take at x ++ drop k x) e
+    ∙ take-append-drop at x

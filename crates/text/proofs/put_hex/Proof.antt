@@ -1,0 +1,125 @@
+-- `text::put_hex` meets its contract: after i turns the digits of the first i bytes stand there.
+use Prim.Native.Nat.{ℕ, _+_, _≤_, _-_, _*_, _/_, _%_}
+use native.Mathlib.Omega.{arith}
+use mathlib.Core.Path.{_≡_, refl, sym, ap, ap₂, _∙_}
+use mathlib.Core.List.{List, [], _∷_}
+use denote.Ref.{now}
+use lib.ListN.{length, getD, take, length-take}
+use lib.Seq.{take-all, length-take-le}
+use borrow.Author.Needs.{needs}
+use Rattle.octets.specs.Runs.{paste}
+use Rattle.octets.proofs.Laws.{paste-length}
+use Rattle.text.specs.Digits.{digit, hex}
+use Rattle.text.proofs.Laws.{hex-length, hex-next, then, paste-nothing}
+use Rattle.text.proofs.put_hex.Statement.{statement}
+use Rattle.text.proofs.put_hex.Tie as tie
+use Rattle.text.proofs.put_hex.Reads as reads
+use Rattle.text.proofs.put_hex.Lts as lts
+use Rattle.octets.proofs.put_bytes.Reads as put-bytes-reads
+use Rattle.text.proofs.digit.Reads as digit-reads
+
+abbrev Inv-loop : tie.InvT-loop
+Inv-loop out₀ at bytes i₀ out i = (i ≤ length bytes) × (length out ≡ length out₀) × (out ≡ paste out₀ at (hex (take i bytes)))
+
+abbrev μ-loop : tie.MeasureT-loop
+μ-loop out₀ at bytes i₀ out i = length bytes - i
+
+-- src/lib.rt:53:5
+loop-holds : tie.Need-loop-holds Inv-loop μ-loop
+loop-holds c = (search needs, refl, sym (paste-nothing (now (c .before .before .args .out)) (c .before .before .args .at)))
+
+-- src/lib.rt:54:17
+shared-slice-read-b : tie.Need-shared-slice-read-b Inv-loop μ-loop
+shared-slice-read-b c = search needs
+
+-- src/lib.rt:55:37
+mul-put-bytes : tie.Need-mul-put-bytes Inv-loop μ-loop
+mul-put-bytes c = omega arith
+
+-- src/lib.rt:55:32
+add-put-bytes : tie.Need-add-put-bytes Inv-loop μ-loop
+add-put-bytes c = omega arith
+
+-- src/lib.rt:55:46
+digit-requires : tie.Need-digit-requires Inv-loop μ-loop
+digit-requires c κs = omega (arith, c .before .shared-slice-known2 .given (c .before .before .before .loop .i))
+
+-- src/lib.rt:55:61
+digit-requires-2 : tie.Need-digit-requires-2 Inv-loop μ-loop
+digit-requires-2 c κs = omega arith
+
+-- src/lib.rt:55:44
+slice-aggregate-put-bytes : tie.Need-slice-aggregate-put-bytes Inv-loop μ-loop
+slice-aggregate-put-bytes c = search needs
+
+-- src/lib.rt:55:9
+put-bytes-requires : tie.Need-put-bytes-requires Inv-loop μ-loop
+put-bytes-requires c κs = omega arith
+
+-- src/lib.rt:56:9
+add-i : tie.Need-add-i Inv-loop μ-loop
+add-i c = omega arith
+
+-- src/lib.rt:53:5
+loop-less : tie.Need-loop-less Inv-loop μ-loop
+loop-less c = omega arith
+
+-- src/lib.rt:53:5
+loop-again : tie.Need-loop-again Inv-loop μ-loop
+loop-again c =
+    let l = c .before .before .before .before .before .before .before .before .before .loop in
+    let a = c .before .before .before .before .before .before .before .before .before .before .before .before .args in
+    let old : List ℕ = hex (take (l .i) (now (a .bytes))) in
+    let b : ℕ = getD (now (a .bytes)) (l .i) 0 in
+    let new : List ℕ = digit (b / 16) ∷ digit (b % 16) ∷ [] in
+    let high = c .before .before .before .before .before .digit in
+    let low = c .before .before .before .before .digit2 in
+    let size : length old ≡ 2 * l .i = omega (arith, hex-length (take (l .i) (now (a .bytes))), length-take-le (l .i) (now (a .bytes)) (search needs)) in (
+      omega arith,
+      search needs,
+      then {r = a .at + 2 * l .i} (now (a .out)) (a .at) old new (omega arith) (l .inv .2) (omega (arith, size))
+          (c .before .before .put-bytes .ensures ∙ ap₂ (λ (x y : ℕ). paste (l .out) (a .at + 2 * l .i) (x ∷ y ∷ [])) (high .ensures) (low .ensures))
+          ∙ ap (paste (now (a .out)) (a .at)) (sym (hex-next (now (a .bytes)) (l .i) (search needs))),
+    )
+
+-- src/lib.rt:58:10
+mul-result : tie.Need-mul-result Inv-loop μ-loop
+mul-result c = omega arith
+
+-- src/lib.rt:58:5
+add-result : tie.Need-add-result Inv-loop μ-loop
+add-result c = omega arith
+
+-- src/lib.rt:48:1
+same-length : tie.Need-same-length Inv-loop μ-loop
+same-length c = search needs
+
+-- src/lib.rt:48:1
+returns : tie.Need-returns Inv-loop μ-loop
+returns c =
+    let l = c .before .loop in
+    let a = c .before .before .before .before .args in
+    let e : l .i ≡ length (now (a .bytes)) = omega arith in
+    (omega (arith, hex-length (now (a .bytes))), l .inv .2 ∙ ap (λ (b : List ℕ). paste (now (a .out)) (a .at) (hex b)) (take-all (l .i) (now (a .bytes)) (omega (arith, e))))
+
+pub put-hex-spec : {M : Type 1} → statement M
+put-hex-spec =
+    tie.close
+    (tie.spec
+    Inv-loop
+    μ-loop
+    loop-holds
+    shared-slice-read-b
+    mul-put-bytes
+    add-put-bytes
+    digit-requires
+    digit-requires-2
+    slice-aggregate-put-bytes
+    put-bytes-requires
+    add-i
+    loop-less
+    loop-again
+    mul-result
+    add-result
+    same-length
+    returns)

@@ -1,0 +1,96 @@
+-- 'Measured examples', the replay program: what it prints of each call, as bytes of text.
+use Prim.Native.Nat.{ℕ, zero, suc, _+_, _-_, _/_, _%_}
+use mathlib.Core.Bool.{Bool}
+use mathlib.Core.List.{List, [], _∷_, _++_}
+use lib.ListN.{length, getD, take, drop}
+use lib.Dec.{eqb, ltb}
+use Rattle.ledger.specs.Choice.{pick, either, _⇒_∣_}
+use Rattle.octets.specs.Runs.{part}
+use Rattle.text.specs.Digits.{decimal, hex}
+
+-- ---- records out, as they stand in the room
+
+abbrev pub isMessage : ℕ → Bool
+isMessage k = either (eqb k 80) (eqb k 67)  -- P, C
+
+-- The size of a record out, by its kind.
+unfoldable pub sizeOut : ℕ → ℕ
+sizeOut k =
+    isMessage k ⇒ 99
+    ∣ eqb k 99 ⇒ 9  -- c: stream, called address
+    ∣ eqb k 97 ⇒ 6  -- a: stream, correlation
+    ∣ eqb k 100 ⇒ 10  -- d: stream, correlation, reason
+    ∣ 2  -- F, r, s: stream
+
+-- What a line shows behind the stream: of a message its bytes up to L, of other kinds the body's other fields.
+unfoldable pub shownOf : List ℕ → List ℕ
+shownOf r = isMessage (getD r 0 0) ⇒ part r 3 (getD r 2 0) ∣ part r 2 (sizeOut (getD r 0 0) - 2)
+
+-- ---- lines
+
+-- two numbers with a word between them
+unfoldable pub pair : ℕ → List ℕ → ℕ → List ℕ
+pair n word m = decimal n ++ word ++ decimal m
+
+-- A line ends where its fields end.
+abbrev pub spaced : List ℕ → List ℕ
+spaced [] = []
+spaced (x ∷ l) = (32 ∷ []) ++ hex (x ∷ l)
+
+-- One line for each record out: the call's number, the kind, the stream, the fields in hex.
+unfoldable pub lineOf : ℕ → List ℕ → List ℕ
+lineOf n r = pair n (32 ∷ getD r 0 0 ∷ 32 ∷ []) (getD r 1 0) ++ spaced (shownOf r) ++ (10 ∷ [])
+
+-- The lines of records that stand one behind the other, at most so many.
+unfoldable pub linesOf : ℕ → ℕ → List ℕ → List ℕ
+linesOf zero n rs = []
+linesOf (suc k) n [] = []
+linesOf (suc k) n (x ∷ rs) = lineOf n (x ∷ rs) ++ linesOf k n (drop (sizeOut x) (x ∷ rs))
+
+abbrev pub allLines : ℕ → List ℕ → List ℕ
+allLines n rs = linesOf (length rs) n rs
+
+-- ' refused ', ' open ', ' ok'
+abbrev pub wordRefused : List ℕ
+wordRefused = 32 ∷ 114 ∷ 101 ∷ 102 ∷ 117 ∷ 115 ∷ 101 ∷ 100 ∷ 32 ∷ []
+
+abbrev pub wordOpen : List ℕ
+wordOpen = 32 ∷ 111 ∷ 112 ∷ 101 ∷ 110 ∷ 32 ∷ []
+
+abbrev pub wordOk : List ℕ
+wordOk = 32 ∷ 111 ∷ 107 ∷ []
+
+-- 'n refused r', 'n open s', 'n ok'
+abbrev pub refusedLine : ℕ → ℕ → List ℕ
+refusedLine n r = pair n wordRefused r ++ (10 ∷ [])
+
+abbrev pub openLine : ℕ → ℕ → List ℕ
+openLine n s = pair n wordOpen s ++ (10 ∷ [])
+
+abbrev pub okLine : ℕ → List ℕ
+okLine n = decimal n ++ (wordOk ++ (10 ∷ []))
+
+-- What is printed of the call with a number of its own: from what the call returned, and the room that it left.
+unfoldable pub callText : ℕ → ℕ → List ℕ → List ℕ
+callText n answer room =
+    ltb 0 (answer / 65536 % 256) ⇒ refusedLine n (answer / 65536 % 256)
+    ∣ ltb 0 (answer / 16777216) ⇒ openLine n (answer / 16777216 - 1)
+    ∣ eqb (answer % 65536) 0 ⇒ okLine n
+    ∣ allLines n (take (answer % 65536) room)
+
+-- ---- the first line and the last
+
+-- 'dlpi replay'
+abbrev pub title : List ℕ
+title = 100 ∷ 108 ∷ 112 ∷ 105 ∷ 32 ∷ 114 ∷ 101 ∷ 112 ∷ 108 ∷ 97 ∷ 121 ∷ 10 ∷ []
+
+-- ' records, ' and ' refused'
+abbrev pub wordRecords : List ℕ
+wordRecords = 32 ∷ 114 ∷ 101 ∷ 99 ∷ 111 ∷ 114 ∷ 100 ∷ 115 ∷ 44 ∷ 32 ∷ []
+
+abbrev pub wordRefusedEnd : List ℕ
+wordRefusedEnd = 32 ∷ 114 ∷ 101 ∷ 102 ∷ 117 ∷ 115 ∷ 101 ∷ 100 ∷ []
+
+-- 'n records, m refused'
+abbrev pub totals : ℕ → ℕ → List ℕ
+totals n m = pair n wordRecords m ++ (wordRefusedEnd ++ (10 ∷ []))
