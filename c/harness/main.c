@@ -1,0 +1,136 @@
+/* kungthevi: which command the user asks for, and what it says of itself. */
+#define _POSIX_C_SOURCE 200809L
+#include <signal.h>
+#include <stdbool.h>
+#include <stddef.h>
+#include <string.h>
+#include <unistd.h>
+
+#include "message.h"
+#include "replay.h"
+#include "status.h"
+#include "text.h"
+
+static const char help[] =
+    "usage: kungthevi replay [FILE..]\n"
+    "       kungthevi --help\n"
+    "\n"
+    "Answers the calls of a capture as a correct DLPI provider does. The answers come from a\n"
+    "library that is proved to follow the rule paper.\n"
+    "\n"
+    "A capture holds the rule paper's input records right behind one another. Each FILE is a\n"
+    "capture of its own; without one, or where it is -, the capture is standard input.\n"
+    "\n"
+    "kungthevi replay [FILE..]\n"
+    "  Makes one call for each record, from a fresh table, and prints\n"
+    "\n"
+    "    dlpi replay              at the beginning\n"
+    "    1 ok                     call 1 was served and wrote no record\n"
+    "    2 open 0                 call 2 opened stream 0\n"
+    "    3 C 0 000000060000000b   call 3 wrote this record: kind, stream, then its fields in hex;\n"
+    "                             a call that wrote several has a line for each\n"
+    "    4 refused 2              call 4 was refused, for the reason of that number\n"
+    "    4 records, 1 refused     at the end\n"
+    "\n"
+    "  Several FILEs print one such text behind the other, in their order. A FILE that cannot be\n"
+    "  read prints no text, one that cannot be read to its end no last line; the others are\n"
+    "  replayed all the same.\n"
+    "\n"
+    "  A call is refused for these reasons:\n"
+    "     2  the stream is over 15 or not open\n"
+    "     3  all 16 streams are open already\n"
+    "     4  a message with L under 4\n"
+    "     5  a message with L over 96\n"
+    "     6  A, D, R or S in a state that has no row for it, or W whose number is not open there\n"
+    "     7  I for an unknown PPA or another MAC, or nobody listens\n"
+    "     8  I for a listener that is busy or has its granted count open\n"
+    "     9  G after any opening, a ninth PPA, or a number already there\n"
+    "    10  no record: bytes past L that are not zero, an unknown kind or a cut body. The last two\n"
+    "        end the reading; standard error says at which byte (from 0) and record (from 1).\n"
+    "\n"
+    "Exit status\n"
+    "  0  every record was served\n"
+    "  1  some record was refused\n"
+    "  2  bad usage, a FILE that cannot be read, or output that cannot be written\n"
+    "\n"
+    "Where standard error is a terminal and standard output is not, it shows how far the reading\n"
+    "of a capture over 4 MB has come.\n";
+
+struct command {
+    const char *name;
+    enum status (*run)(struct text *text, char *const *files, size_t count);
+};
+
+static const struct command commands[] = {
+    { "replay", replay },
+};
+
+static const struct command *command_of_name(const char *name)
+{
+    for (size_t i = 0; i < sizeof commands / sizeof commands[0]; i++)
+        if (strcmp(commands[i].name, name) == 0)
+            return &commands[i];
+    return NULL;
+}
+
+static bool asks_for_help(const char *word)
+{
+    return strcmp(word, "--help") == 0 || strcmp(word, "-h") == 0;
+}
+
+static bool is_option(const char *word)
+{
+    return word[0] == '-' && word[1] != '\0';
+}
+
+static enum status print_help(struct text *text)
+{
+    text_words(text, help);
+    return STATUS_SERVED;
+}
+
+static enum status bad_usage(const char *what, const char *word)
+{
+    message("%s%s; 'kungthevi --help' says what there is", what, word);
+    return STATUS_FAILED;
+}
+
+/* Options may stand anywhere before "--"; behind it each word is a file. */
+static enum status run_command(struct text *text, const struct command *command, char **words, size_t count)
+{
+    size_t files = 0;
+    bool options = true;
+    for (size_t i = 0; i < count; i++) {
+        if (options && asks_for_help(words[i]))
+            return print_help(text);
+        if (options && strcmp(words[i], "--") == 0)
+            options = false;
+        else if (options && is_option(words[i]))
+            return bad_usage("unknown option ", words[i]);
+        else
+            words[files++] = words[i];
+    }
+    return command->run(text, words, files);
+}
+
+static enum status run(struct text *text, int argc, char **argv)
+{
+    if (argc < 2)
+        return bad_usage("no command", "");
+    if (asks_for_help(argv[1]) || strcmp(argv[1], "help") == 0)
+        return print_help(text);
+    const struct command *command = command_of_name(argv[1]);
+    if (command == NULL)
+        return bad_usage(is_option(argv[1]) ? "unknown option " : "unknown command ", argv[1]);
+    return run_command(text, command, argv + 2, (size_t)argc - 2);
+}
+
+/* A reader that leaves early is a write that fails, not a signal that ends the program: the exit status is to tell. */
+int main(int argc, char **argv)
+{
+    struct text text;
+    signal(SIGPIPE, SIG_IGN);
+    text_start(&text, STDOUT_FILENO);
+    enum status status = run(&text, argc, argv);
+    return (int)(text_end(&text) ? status : STATUS_FAILED);
+}

@@ -1,0 +1,33 @@
+/* A record that a call wrote into its room. */
+#include "record_out.h"
+
+enum { AT_KIND = 0, AT_STREAM = 1, AT_FIELDS = 2, AT_LENGTH = 2, AT_BLOCK = 3, BLOCK_SIZE = 96 };
+
+static size_t size_of_fields(uint8_t kind)
+{
+    switch (kind) {
+    case 'c':
+        return 7; /* called */
+    case 'a':
+        return 4; /* correlation */
+    case 'd':
+        return 4 + 4; /* correlation, reason */
+    default:
+        return 0; /* F, r and s */
+    }
+}
+
+struct record_out record_out_read(const uint8_t *bytes)
+{
+    struct record_out record = { .kind = bytes[AT_KIND], .stream = bytes[AT_STREAM] };
+    if (record.kind == 'P' || record.kind == 'C') {
+        record.fields = bytes + AT_BLOCK;
+        record.fields_size = bytes[AT_LENGTH];
+        record.size = AT_BLOCK + BLOCK_SIZE;
+    } else {
+        record.fields = bytes + AT_FIELDS;
+        record.fields_size = size_of_fields(record.kind);
+        record.size = AT_FIELDS + record.fields_size;
+    }
+    return record;
+}
