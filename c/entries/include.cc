@@ -1,0 +1,13 @@
+/* The header in C++: opens a stream of a fresh table. */
+#include "../kungthevi.h"
+
+int main()
+{
+    uint8_t table[KUNGTHEVI_TABLE_SIZE];
+    uint8_t room[KUNGTHEVI_ROOM_SIZE] = {};
+    const uint8_t record[] = { 'O' };
+    if (kungthevi_fresh(table, sizeof table) != 0 || kungthevi_record_size(record, sizeof record) != sizeof record)
+        return 1;
+    uint32_t answer = kungthevi_call(table, sizeof table, record, sizeof record, room, sizeof room);
+    return KUNGTHEVI_REFUSAL(answer) == 0 && KUNGTHEVI_TOKEN(answer) == 1 ? 0 : 1;
+}

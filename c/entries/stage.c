@@ -1,0 +1,56 @@
+/* Making calls on a stage. */
+#include "stage.h"
+
+#include <string.h>
+
+#include "text.h"
+
+bool all_are(const uint8_t *bytes, size_t size, uint8_t byte)
+{
+    for (size_t i = 0; i < size; i++)
+        if (bytes[i] != byte)
+            return false;
+    return true;
+}
+
+void stage_prepare(struct stage *stage)
+{
+    memcpy(stage->before, stage->table, sizeof stage->before);
+    memset(stage->room, ROOM_BYTE, sizeof stage->room);
+}
+
+/* Calls for the next record of the text. */
+static uint32_t call_next(struct stage *stage, const char **text, size_t room_len)
+{
+    uint8_t record[LONGEST_RECORD];
+    size_t size = text_record(text, record);
+    stage_prepare(stage);
+    return kungthevi_call(stage->table, sizeof stage->table, record, size, stage->room, room_len);
+}
+
+void stage_set(struct stage *stage, const char *records)
+{
+    (void)kungthevi_fresh(stage->table, sizeof stage->table);
+    while (*records != '\0')
+        (void)call_next(stage, &records, KUNGTHEVI_ROOM_SIZE);
+}
+
+uint32_t stage_call(struct stage *stage, const char *record)
+{
+    return call_next(stage, &record, KUNGTHEVI_ROOM_SIZE);
+}
+
+uint32_t stage_call_in_room(struct stage *stage, const char *record, size_t room_len)
+{
+    return call_next(stage, &record, room_len);
+}
+
+bool stage_table_is_kept(const struct stage *stage)
+{
+    return memcmp(stage->table, stage->before, sizeof stage->table) == 0;
+}
+
+bool stage_is_kept(const struct stage *stage)
+{
+    return stage_table_is_kept(stage) && all_are(stage->room, sizeof stage->room, ROOM_BYTE);
+}
