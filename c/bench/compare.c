@@ -1,0 +1,86 @@
+/* Comparing what the providers make of a capture. */
+#include "compare.h"
+
+#include <stdio.h>
+#include <string.h>
+
+#include "../generate/image.h"
+#include "../kungthevi.h"
+#include "provider.h"
+
+/* What is lent to a provider, and the number it returned last. */
+struct loan {
+    uint32_t answer;
+    uint8_t table[PROVIDER_TABLE];
+    uint8_t room[PROVIDER_ROOM];
+};
+
+static void start(struct loan loans[PROVIDERS])
+{
+    memset(loans, 0, PROVIDERS * sizeof *loans);
+    for (unsigned i = 0; i < PROVIDERS; i++)
+        loans[i].answer = providers[i].fresh(loans[i].table, PROVIDER_TABLE);
+}
+
+static void make_call(struct loan loans[PROVIDERS], const uint8_t *record, size_t size)
+{
+    for (unsigned i = 0; i < PROVIDERS; i++) {
+        struct loan *loan = &loans[i];
+        loan->answer = providers[i].call(loan->table, PROVIDER_TABLE, record, size, loan->room, PROVIDER_ROOM);
+    }
+}
+
+static bool is_alike(const struct loan *left, const struct loan *right)
+{
+    return left->answer == right->answer &&
+           memcmp(left->table, right->table, PROVIDER_TABLE) == 0 &&
+           memcmp(left->room, right->room, PROVIDER_ROOM) == 0;
+}
+
+/* A provider whose loan is not as that of the second program, or PROVIDERS. */
+static unsigned find_unlike(const struct loan loans[PROVIDERS])
+{
+    unsigned i = 0;
+    while (i < PROVIDERS && is_alike(&loans[i], &loans[SECOND]))
+        i++;
+    return i;
+}
+
+static void sum_before(struct summary *summary, const uint8_t *table)
+{
+    summary->open_streams += image_open_streams(table);
+    for (unsigned stream = 0; stream < STREAMS; stream++)
+        summary->open_indications += image_indications(table, stream);
+}
+
+static bool is_error(const struct loan *loan)
+{
+    return KUNGTHEVI_WRITTEN(loan->answer) > 0 && loan->room[AT_KIND] == 'C' &&
+           get32(loan->room + AT_BLOCK) == ERROR_ACK;
+}
+
+static void sum_after(struct summary *summary, const struct loan *loan)
+{
+    summary->refused += KUNGTHEVI_REFUSAL(loan->answer) != 0;
+    summary->errors += is_error(loan);
+    summary->ppas = image_ppas(loan->table);
+}
+
+bool compare_providers(const char *name, const struct capture *capture, struct summary *summary)
+{
+    struct loan loans[PROVIDERS];
+    *summary = (struct summary){ 0 };
+    start(loans);
+    for (size_t call = 0; call < capture->calls; call++) {
+        sum_before(summary, loans[SECOND].table);
+        make_call(loans, capture_record(capture, call), capture_record_size(capture, call));
+        unsigned unlike = find_unlike(loans);
+        if (unlike != PROVIDERS) {
+            fprintf(stderr, "bench: %s, call %zu: %s and %s differ\n", name, call + 1, providers[unlike].name,
+                    providers[SECOND].name);
+            return false;
+        }
+        sum_after(summary, &loans[SECOND]);
+    }
+    return true;
+}

@@ -1,0 +1,32 @@
+/* The providers that are measured beside one another. */
+#ifndef BENCH_PROVIDER_H
+#define BENCH_PROVIDER_H
+
+#include <stddef.h>
+#include <stdint.h>
+
+/* A table and a room fit every provider. */
+enum {
+    PROVIDER_TABLE = 760,
+    PROVIDER_ROOM = 128
+};
+
+struct provider {
+    const char *name;
+    uint32_t (*fresh)(uint8_t *table, size_t table_len);
+    uint32_t (*call)(uint8_t *table, size_t table_len,
+                     const uint8_t *record, size_t record_len,
+                     uint8_t *room, size_t room_len);
+};
+
+/* Ratios are to the second program. */
+enum {
+    LIBRARY,
+    SECOND,
+    INNER,
+    PROVIDERS
+};
+
+extern const struct provider providers[PROVIDERS];
+
+#endif
