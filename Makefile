@@ -1,15 +1,33 @@
 # Short ways to everything. C programs are built below target/c/; `rt` builds and proves the rest below target/.
+SHELL = /bin/bash
+.SHELLFLAGS = -o pipefail -c
 CC = gcc
+CXX = g++
 CFLAGS = -std=c11 -O2 -Wall -Wextra -Wpedantic -Werror
+CXXFLAGS = -std=c++11 -O2 -Wall -Wextra -Wpedantic -Werror
 SANITIZE = -std=c11 -O1 -g -Wall -Wextra -Wpedantic -Werror -fsanitize=address,undefined -fno-sanitize-recover=all
+
+# how many calls are compared, and from which capture on
+N = 1000000
+SEED = 1
+
+RATTLE = crates.txt $(shell find crates -name '*.rt' -o -name '*.antt')
+LIBRARY = target/lib/libkungthevi.a
+INNER = target/staticlib/libinner.a
+REPLAY = target/bin/replay
 
 SECOND = $(filter-out c/second/main.c,$(wildcard c/second/*.c))
 SELFTEST = $(wildcard c/second/test/*.c)
 GENERATE = $(filter-out c/generate/main.c c/generate/coverage.c,$(wildcard c/generate/*.c))
-HEADERS = $(wildcard c/*/*.h c/*/*/*.h)
+HARNESS = $(wildcard c/harness/*.c)
+ENTRIES = $(wildcard c/entries/*.c)
+COMPARE = $(wildcard c/compare/*.c)
+BENCH = $(wildcard c/bench/*.c)
+HEADERS = $(wildcard c/*.h c/*/*.h c/*/*/*.h)
 CAPTURES = $(patsubst captures/%.records,target/captures/%,$(wildcard captures/*.records))
 
-.PHONY: all check demo replay c sanitized captures texts definitions selftest coverage paper clean
+.PHONY: all check demo replay lib c sanitized example captures texts definitions entries harness selftest coverage \
+	compare bench instructions paper clean
 
 all: c captures
 
@@ -17,18 +35,47 @@ all: c captures
 check:
 	.ci/run
 
-# the measured example of the rule paper
-demo: target/c/second target/captures/measured
-	target/c/second < target/captures/measured
+# the measured example of the rule paper, and what became of four cranes that rang in at once
+demo: $(REPLAY) target/c/kungthevi target/captures/measured target/captures/four-cranes-and-what-became-of-each
+	$(REPLAY) < target/captures/measured
+	target/c/kungthevi replay target/captures/four-cranes-and-what-became-of-each || test $$? -eq 1
 
 # one capture: its bytes, or their readable form
-replay: target/c/second
+replay: $(REPLAY)
 	@case "$(FILE)" in \
-	*.records) python3 captures/assemble.py "$(FILE)" | target/c/second ;; \
-	?*) target/c/second < "$(FILE)" ;; \
+	*.records) python3 captures/assemble.py "$(FILE)" | $(REPLAY) ;; \
+	?*) $(REPLAY) < "$(FILE)" ;; \
 	*) echo 'usage: make replay FILE=capture' >&2; exit 2 ;; esac
 
-c: target/c/second target/c/generate target/c/coverage target/c/selftest
+# ---- what is proved
+
+# the library and its header in one folder, target/lib/
+lib: $(LIBRARY) target/lib/kungthevi.h
+
+# What is not proved yet is proved first, crate by crate, which takes some minutes.
+PROVED = tee target/rt.log | grep '^rt: ' || { cat target/rt.log; exit 1; }
+
+$(LIBRARY): $(RATTLE)
+	@mkdir -p $(@D)
+	rt staticlib kungthevi 2>&1 | $(PROVED)
+	cp target/staticlib/libkungthevi.a $@
+
+target/lib/kungthevi.h: c/kungthevi.h
+	@mkdir -p $(@D)
+	cp $< $@
+
+$(REPLAY): $(RATTLE)
+	@mkdir -p $(@D)
+	rt check replay 2>&1 | $(PROVED)
+
+$(INNER): $(RATTLE)
+	@mkdir -p $(@D)
+	rt staticlib inner 2>&1 | $(PROVED)
+
+# ---- C
+
+c: target/c/second target/c/generate target/c/coverage target/c/selftest target/c/kungthevi target/c/entries \
+	target/c/include target/c/compare target/c/bench
 
 target/c/second: $(SECOND) c/second/main.c $(HEADERS)
 	@mkdir -p $(@D)
@@ -46,8 +93,29 @@ target/c/coverage: $(GENERATE) c/generate/coverage.c $(SECOND) $(HEADERS)
 	@mkdir -p $(@D)
 	$(CC) $(CFLAGS) -Ic/second -o $@ $(GENERATE) c/generate/coverage.c $(SECOND)
 
+target/c/kungthevi: $(HARNESS) $(LIBRARY) $(HEADERS)
+	@mkdir -p $(@D)
+	$(CC) $(CFLAGS) -o $@ $(HARNESS) $(LIBRARY)
+
+target/c/entries: $(ENTRIES) $(LIBRARY) $(HEADERS)
+	@mkdir -p $(@D)
+	$(CC) $(CFLAGS) -o $@ $(ENTRIES) $(LIBRARY)
+
+target/c/include: c/entries/include.cc $(LIBRARY) $(HEADERS)
+	@mkdir -p $(@D)
+	$(CXX) $(CXXFLAGS) -o $@ c/entries/include.cc $(LIBRARY)
+
+target/c/compare: $(COMPARE) $(GENERATE) $(SECOND) $(LIBRARY) $(HEADERS)
+	@mkdir -p $(@D)
+	$(CC) $(CFLAGS) -Ic/second -o $@ $(COMPARE) $(GENERATE) $(SECOND) $(LIBRARY)
+
+target/c/bench: $(BENCH) $(GENERATE) $(SECOND) $(LIBRARY) $(INNER) $(HEADERS)
+	@mkdir -p $(@D)
+	$(CC) $(CFLAGS) -Ic/second -o $@ $(BENCH) $(GENERATE) $(SECOND) $(LIBRARY) $(INNER)
+
 # the same under AddressSanitizer and UndefinedBehaviorSanitizer
-sanitized: target/c/sanitized/second target/c/sanitized/selftest target/c/sanitized/coverage
+sanitized: target/c/sanitized/second target/c/sanitized/selftest target/c/sanitized/coverage target/c/sanitized/kungthevi \
+	target/c/sanitized/entries target/c/sanitized/compare
 
 target/c/sanitized/second: $(SECOND) c/second/main.c $(HEADERS)
 	@mkdir -p $(@D)
@@ -61,6 +129,27 @@ target/c/sanitized/coverage: $(GENERATE) c/generate/coverage.c $(SECOND) $(HEADE
 	@mkdir -p $(@D)
 	$(CC) $(SANITIZE) -Ic/second -o $@ $(GENERATE) c/generate/coverage.c $(SECOND)
 
+target/c/sanitized/kungthevi: $(HARNESS) $(LIBRARY) $(HEADERS)
+	@mkdir -p $(@D)
+	$(CC) $(SANITIZE) -o $@ $(HARNESS) $(LIBRARY)
+
+target/c/sanitized/entries: $(ENTRIES) $(LIBRARY) $(HEADERS)
+	@mkdir -p $(@D)
+	$(CC) $(SANITIZE) -o $@ $(ENTRIES) $(LIBRARY)
+
+target/c/sanitized/compare: $(COMPARE) $(GENERATE) $(SECOND) $(LIBRARY) $(HEADERS)
+	@mkdir -p $(@D)
+	$(CC) $(SANITIZE) -Ic/second -o $@ $(COMPARE) $(GENERATE) $(SECOND) $(LIBRARY)
+
+# the example in the header, as it stands there, against the folder that `make lib` leaves
+example: lib
+	@mkdir -p target/c
+	sed -n '/^ \* Example/,/^ \*\//s/^ \*     //p' c/kungthevi.h > target/c/example.c
+	$(CC) $(CFLAGS) -Itarget/lib -o target/c/example target/c/example.c $(LIBRARY)
+	target/c/example
+
+# ---- captures
+
 # the bytes of the readable captures
 captures: $(CAPTURES)
 
@@ -68,13 +157,25 @@ target/captures/%: captures/%.records captures/assemble.py
 	@mkdir -p $(@D)
 	python3 captures/assemble.py $< > $@.part && mv $@.part $@
 
-# each capture prints its expected text
-texts: target/c/second captures
+# each capture prints its expected text: by the proved program, and by the second one
+texts: $(REPLAY) target/c/second captures
+	tools/texts $(REPLAY)
 	tools/texts target/c/second
 
-# the same by the definitions of crates/paper
+# the same by the definitions
 definitions:
 	tools/definitions.py
+
+# ---- tests
+
+# the library's entries, as a C programmer meets them
+entries: target/c/entries target/c/include
+	target/c/entries
+	target/c/include
+
+# the command, as its users meet it
+harness: target/c/kungthevi captures
+	c/harness/test target/c/kungthevi
 
 selftest: target/c/selftest
 	target/c/selftest
@@ -82,6 +183,21 @@ selftest: target/c/selftest
 # what 100 generated captures of 400 calls reach
 coverage: target/c/coverage
 	target/c/coverage
+
+# N calls to the library and to the second program, from the captures of SEED on
+compare: target/c/compare
+	@mkdir -p target/differences
+	target/c/compare -d target/differences $(N) $(SEED)
+
+# calls a second and MB/s beside the second program's
+bench: target/c/bench target/c/second target/c/kungthevi $(REPLAY)
+	@mkdir -p target/bench
+	target/c/bench target/bench target/c/second $(REPLAY) 'target/c/kungthevi replay'
+
+# instructions a call takes; needs valgrind
+instructions: target/c/bench
+	@mkdir -p target/bench
+	c/bench/instructions target/c/bench target/bench
 
 # each sentence of the rule paper has its definition
 paper:
