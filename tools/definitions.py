@@ -1,9 +1,9 @@
 #!/usr/bin/env python3
-"""Replays every capture of captures/ by the definitions of crates/paper, and compares with its expected text.
+"""Replays every capture of captures/ by the definitions, and compares with its expected text.
 
-For each capture it writes a claim that `step`, from a fresh table and with 128 bytes of room, gives at each call the
-refusal, the opening or the records of the text, and has the checker compute it. The claims stand in a crate of their own
-below target/definitions/. The last line is 'N passed, M failed'; exit status 1 if a claim fails.
+For each capture it writes a claim that what the calls come to by `step` (crates/paper), from a fresh table and with 128
+bytes of room, prints as the text (crates/transcript), byte by byte, and has the checker compute it. The claims stand in a
+crate of their own below target/definitions/. The last line is 'N passed, M failed'; exit status 1 if a claim fails.
 """
 import importlib.util
 import pathlib
@@ -13,33 +13,41 @@ import sys
 
 TOP = pathlib.Path(__file__).resolve().parent.parent
 HERE = TOP / "target/definitions"
-BELOW = ["ledger", "octets", "paper"]
+BELOW = ["ledger", "octets", "paper", "text", "transcript"]
 
 CLAIMS = """\
 -- What the definitions come to on the captures.
-use Prim.Native.Nat.{ℕ}
+use Prim.Native.Nat.{ℕ, _+_, _*_}
 use mathlib.Core.Path.{_≡_, refl}
 use mathlib.Core.Bool.{Bool, true}
 use mathlib.Core.List.{List, [], _∷_, _++_}
-use lib.ListN.{replicate}
-use lib.Dec.{eqb}
-use Rattle.ledger.specs.Choice.{_⇒_∣_, both}
-use Rattle.octets.specs.Runs.{sameBytes}
+use lib.ListN.{length, replicate}
+use lib.Dec.{ltb}
+use Rattle.ledger.specs.Choice.{_⇒_∣_, pick, both}
+use Rattle.ledger.specs.Tally.{oneIf}
+use Rattle.octets.specs.Runs.{over, sameBytes}
 use Rattle.paper.specs.Base.{Table, fresh}
 use Rattle.paper.specs.RecordsOut.{allBytes}
 use Rattle.paper.specs.Refusals.{Outcome}
+use Rattle.transcript.specs.Transcript.{title, totals}
 USES
 
--- the record lent; the refusal, the token and the bytes that must come of it
+-- the record lent, and what must be printed of its call
 data Call : Type 0 where
-  call : List ℕ → ℕ → ℕ → List ℕ → Call
+  call : List ℕ → List ℕ → Call
 
-abbrev comes : Outcome → ℕ → ℕ → List ℕ → Bool
-comes o n k w = both (eqb (o .refusal) n) (both (eqb (o .opened) k) (sameBytes (allBytes (o .records)) w))
+abbrev number : Outcome → ℕ
+number o = pick (ltb 0 (o .refusal)) (o .refusal * 65536) (length (allBytes (o .records)) + o .opened * 16777216)
 
-abbrev replays : Table → List Call → Bool
-replays t [] = true
-replays t (call r n k w ∷ l) = both (comes (step t r 128) n k w) (replays (step t r 128 .table) l)
+abbrev printed : ℕ → Outcome → List ℕ
+printed n o = callText n (number o) (over (allBytes (o .records)) (replicate 128 0))
+
+-- from a table on, with so many calls made and so many of them refused; the last line
+abbrev replays : Table → ℕ → ℕ → List Call → List ℕ → Bool
+replays t n m [] end = sameBytes (totals n m) end
+replays t n m (call r w ∷ l) end =
+    both (sameBytes (printed (n + 1) (step t r 128)) w)
+    (replays (step t r 128 .table) (n + 1) (m + oneIf (ltb 0 (step t r 128 .refusal))) l end)
 """
 
 
@@ -72,32 +80,14 @@ def lent(capture):
         capture = capture[size:]
 
 
-def record_out(kind, stream, digits):
-    """The bytes of a record as the text prints it."""
-    body = bytes.fromhex(digits)
-    if kind in "PC":
-        return bytes([ord(kind), stream, len(body)]) + body.ljust(96, b"\0")
-    return bytes([ord(kind), stream]) + body
-
-
 def expected(name):
-    """For each numbered call of the text: the refusal, the token of the stream opened, the bytes written."""
+    """The first line of the text, the lines of each numbered call, the last line."""
+    first, *lines, last = (TOP / "captures" / (name + ".text")).read_bytes().splitlines(keepends=True)
     calls = {}
-    lines = (TOP / "captures" / (name + ".text")).read_text().splitlines()
-    for line in lines[1:-1]:
-        number, word, *rest = line.split(" ")
-        refusal, token, written = calls.get(number, (0, 0, b""))
-        if word == "refused":
-            refusal = int(rest[0])
-        elif word == "open":
-            token = int(rest[0]) + 1
-        elif word != "ok":
-            written += record_out(word, int(rest[0]), rest[1] if len(rest) > 1 else "")
-        calls[number] = (refusal, token, written)
-    refused = sum(1 for refusal, _, _ in calls.values() if refusal)
-    if lines[0] != "dlpi replay" or lines[-1] != f"{len(calls)} records, {refused} refused":
-        return None
-    return list(calls.values())
+    for line in lines:
+        number = line.split(b" ")[0]
+        calls[number] = calls.get(number, b"") + line
+    return first, list(calls.values()), last
 
 
 def antt_bytes(run):
@@ -109,19 +99,21 @@ def antt_bytes(run):
 
 def claim(name):
     """The claim of a capture, and nothing where the text is not one of as many calls."""
-    records, outcomes = list(lent(assembled(name))), expected(name)
-    if outcomes is None or len(records) != len(outcomes):
+    records, (first, texts, last) = list(lent(assembled(name))), expected(name)
+    if len(records) != len(texts):
         return ""
-    calls = [f"call {antt_bytes(r)} {n} {k} {antt_bytes(w)}" for r, (n, k, w) in zip(records, outcomes)]
-    return f"\n{name} : replays fresh ({' ∷ '.join(calls + ['[]'])}) ≡ true\nunfolding UNFOLDS\n{name} = refl\n"
+    calls = " ∷ ".join([f"call {antt_bytes(r)} {antt_bytes(w)}" for r, w in zip(records, texts)] + ["[]"])
+    claimed = f"both (sameBytes title {antt_bytes(first)}) (replays fresh 0 0 ({calls}) {antt_bytes(last)})"
+    return f"\n{name} : {claimed} ≡ true\nunfolding UNFOLDS\n{name} = refl\n"
 
 
 def shut_names():
-    """The definitions of the paper that the claims open, by module."""
-    for path in sorted((TOP / "crates/paper/specs").glob("*.antt")):
-        names = re.findall(r"^unfoldable pub (\S+)", path.read_text(), re.M)
-        if names and path.stem != "Examples":
-            yield path.stem, names
+    """The definitions that the claims open, by crate and module."""
+    for crate in BELOW[2:]:
+        for path in sorted((TOP / "crates" / crate / "specs").glob("*.antt")):
+            names = re.findall(r"^unfoldable pub (\S+)", path.read_text(), re.M)
+            if names and path.stem != "Examples":
+                yield crate, path.stem, names
 
 
 def write_crate(claims):
@@ -138,8 +130,8 @@ def write_crate(claims):
     (crate / "specs/Lib.antt").write_text("-- none\n")
     (crate / "proofs/Lib.antt").write_text("pub mod Claims\n")
     shut = list(shut_names())
-    uses = "\n".join(f"use Rattle.paper.specs.{module}.{{{', '.join(names)}}}" for module, names in shut)
-    opened = " ".join(["_⇒_∣_"] + [name for _, names in shut for name in names])
+    uses = "\n".join(f"use Rattle.{crate}.specs.{module}.{{{', '.join(names)}}}" for crate, module, names in shut)
+    opened = " ".join(["_⇒_∣_"] + [name for _, _, names in shut for name in names])
     text = CLAIMS.replace("USES", uses) + "".join(claims).replace("UNFOLDS", opened)
     (crate / "proofs/Claims.antt").write_text(text)
 

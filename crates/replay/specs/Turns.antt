@@ -1,5 +1,5 @@
 -- What holds between two turns of the replay program: where it stands in its buffers of 65,536 bytes.
-use Prim.Native.Nat.{ℕ, _≤_}
+use Prim.Native.Nat.{_≤_}
 use Rattle.replay.specs.declared.Turn.{Turn}
 
 pub record Fine (t : Turn) : Type 0 where

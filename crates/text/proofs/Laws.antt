@@ -11,7 +11,7 @@ use lib.Seq.{take-suc, drop-cons, drop-set-lt, getD-set-same}
 use borrow.Author.Tests.{lt-ltb, le-ltb}
 use Rattle.ledger.specs.Choice.{pick}
 use Rattle.octets.specs.Runs.{paste}
-use Rattle.octets.proofs.Laws.{paste-join, paste-length}
+use Rattle.octets.proofs.Laws.{paste-join}
 use Rattle.text.specs.Digits.{digit, digits, decimal, hex}
 
 -- ---- decimal

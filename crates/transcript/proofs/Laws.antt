@@ -2,16 +2,14 @@
 use Prim.Native.Nat.{ℕ, zero, suc, _+_, _-_, _*_, _/_, _%_, _≤_, _<_, min}
 use native.Mathlib.Omega.{arith}
 use mathlib.Core.Path.{_≡_, refl, sym, ap, _∙_}
-use mathlib.Core.Bool.{Bool, true, false}
 use mathlib.Core.List.{List, [], _∷_, _++_}
-use lib.Dec.{eqb, ltb}
 use lib.ListN.{length, getD, take, drop, length-append, length-drop, length-take, drop-of-length-le}
 use lib.Seq.{drop-cons, drop-drop}
 use Rattle.ledger.proofs.Tallies.{chosen}
-use Rattle.octets.specs.Runs.{part, paste}
+use Rattle.octets.specs.Runs.{part}
 use Rattle.text.specs.Digits.{decimal, hex}
 use Rattle.text.proofs.Laws.{decimal-most, hex-length}
-use Rattle.transcript.specs.Transcript.{isMessage, sizeOut, shownOf, pair, spaced, lineOf, linesOf, allLines, wordRefused, wordOpen, wordOk, refusedLine, openLine, okLine, callText, wordRecords, wordRefusedEnd, totals}
+use Rattle.transcript.specs.Transcript.{sizeOut, shownOf, pair, spaced, lineOf, linesOf, wordRefused, wordOpen, wordOk, callText, wordRecords, wordRefusedEnd, totals}
 
 -- ---- how long
 

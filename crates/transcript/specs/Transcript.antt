@@ -4,7 +4,7 @@ use mathlib.Core.Bool.{Bool}
 use mathlib.Core.List.{List, [], _∷_, _++_}
 use lib.ListN.{length, getD, take, drop}
 use lib.Dec.{eqb, ltb}
-use Rattle.ledger.specs.Choice.{pick, either, _⇒_∣_}
+use Rattle.ledger.specs.Choice.{either, _⇒_∣_}
 use Rattle.octets.specs.Runs.{part}
 use Rattle.text.specs.Digits.{decimal, hex}
 

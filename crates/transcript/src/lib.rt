@@ -56,7 +56,7 @@ fn put_shown(out: &mut [u8], at: usize, s: &[u8]) -> usize
 // Two numbers with a word between them.
 fn put_pair(out: &mut [u8], at: usize, n: u64, word: &[u8], m: u64) -> usize
     requires { ⌜ (length (now word) ≤ 10) × (at + 50 ≤ length (now out)) ⌝ }
-    ensures { λ e. ⌜ (e ≡ at + length (pair n (now (word .entry)) m)) × (now (out .exit) ≡ paste (now (out .entry)) at (pair n (now (word .entry)) m)) ⌝ }
+    ensures { λ e. ⌜ (e ≡ at + length (pair n (now (word .entry)) m)) × (e ≤ at + 50) × (now (out .exit) ≡ paste (now (out .entry)) at (pair n (now (word .entry)) m)) ⌝ }
 {
     let a = text::put_decimal(out, at, n);
     let b = text::put_word(out, a, word);

@@ -1,15 +1,12 @@
 -- `replay::called` meets its contract: the record lies within the input, its text within the output.
-use Prim.Native.Nat.{ℕ, _-_}
-use native.Mathlib.Nat.{add-sub-cancel-left}
+use Prim.Native.Nat.{ℕ, _-_, _≤_}
 use native.Mathlib.Omega.{arith}
 use mathlib.Core.List.{List}
 use mathlib.Core.Bool.{Bool, true, false}
-use Prim.Native.Nat.{_≤_}
 use denote.Ref.{now}
-use lib.ListN.{length, take, drop, length-take, length-drop}
+use lib.ListN.{take, drop, length-take}
 use borrow.Author.Needs.{needs}
 use Rattle.ledger.specs.Tally.{oneIf}
-use Rattle.paper.specs.RecordsIn.{recordSize}
 use Rattle.replay.proofs.Laws.{record-within}
 use Rattle.replay.proofs.called.Statement.{statement}
 use Rattle.replay.proofs.called.Tie as tie

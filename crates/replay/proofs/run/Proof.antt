@@ -1,6 +1,6 @@
 -- `replay::run` meets its contract: each turn leaves what the next one asks, and one fewer is left.
 use native.Mathlib.Omega.{arith}
-use mathlib.Core.Path.{_≡_, refl}
+use mathlib.Core.Path.{_≡_}
 use lib.ListN.{length}
 use borrow.Author.Needs.{needs}
 use Rattle.replay.specs.Turns.{Fine}

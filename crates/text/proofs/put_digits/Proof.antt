@@ -2,9 +2,9 @@
 use Prim.Native.Nat.{_≤_, _<_, _^_}
 use native.Mathlib.Omega.{arith}
 use mathlib.Core.Path.{_≡_, refl, _∙_}
-use mathlib.Core.List.{_++_, append-nil}
+use mathlib.Core.List.{_++_}
 use denote.Ref.{now}
-use lib.ListN.{length, drop, length-set, drop-of-length-le}
+use lib.ListN.{length, drop, length-set}
 use borrow.Author.Needs.{needs}
 use Rattle.text.specs.Digits.{digits, decimal}
 use Rattle.text.proofs.Laws.{two-places, tenth, digits-none, digit-before, digit-first}
@@ -24,18 +24,6 @@ loop-holds c = (omega arith, omega arith, search needs, refl, digits-none (c .ar
 sub-from : tie.Need-sub-from Inv-loop μ-loop
 sub-from c = c .before .loop .inv .0
 
-cast-digits : tie.Need-cast-digits Inv-loop μ-loop
-cast-digits c = search needs
-
-add-digits : tie.Need-add-digits Inv-loop μ-loop
-add-digits c = search needs
-
-slice-write-digits : tie.Need-slice-write-digits Inv-loop μ-loop
-slice-write-digits c = search needs
-
-loop-less : tie.Need-loop-less Inv-loop μ-loop
-loop-less c = omega arith
-
 loop-again : tie.Need-loop-again Inv-loop μ-loop
 loop-again c =
     let l = c .before .loop in
@@ -49,18 +37,6 @@ loop-again c =
 
 sub-from-2 : tie.Need-sub-from-2 Inv-loop μ-loop
 sub-from-2 c = c .before .loop .inv .0
-
-cast-digits-2 : tie.Need-cast-digits-2 Inv-loop μ-loop
-cast-digits-2 c = search needs
-
-add-digits-2 : tie.Need-add-digits-2 Inv-loop μ-loop
-add-digits-2 c = search needs
-
-slice-write-digits-2 : tie.Need-slice-write-digits-2 Inv-loop μ-loop
-slice-write-digits-2 c = search needs
-
-same-length : tie.Need-same-length Inv-loop μ-loop
-same-length c = search needs
 
 returns : tie.Need-returns Inv-loop μ-loop
 returns c =
@@ -78,14 +54,14 @@ put-digits-spec =
     μ-loop
     loop-holds
     sub-from
-    cast-digits
-    add-digits
-    slice-write-digits
-    loop-less
+    (λ c. search needs)
+    (λ c. search needs)
+    (λ c. search needs)
+    (λ c. omega arith)
     loop-again
     sub-from-2
-    cast-digits-2
-    add-digits-2
-    slice-write-digits-2
-    same-length
+    (λ c. search needs)
+    (λ c. search needs)
+    (λ c. search needs)
+    (λ c. search needs)
     returns)

@@ -4,19 +4,14 @@ use native.Mathlib.Omega.{arith}
 use mathlib.Core.Path.{_≡_, refl, sym, ap, ap₂, _∙_}
 use mathlib.Core.List.{List, [], _∷_}
 use denote.Ref.{now}
-use lib.ListN.{length, getD, take, length-take}
+use lib.ListN.{length, getD, take}
 use lib.Seq.{take-all, length-take-le}
 use borrow.Author.Needs.{needs}
 use Rattle.octets.specs.Runs.{paste}
-use Rattle.octets.proofs.Laws.{paste-length}
 use Rattle.text.specs.Digits.{digit, hex}
 use Rattle.text.proofs.Laws.{hex-length, hex-next, then, paste-nothing}
 use Rattle.text.proofs.put_hex.Statement.{statement}
 use Rattle.text.proofs.put_hex.Tie as tie
-use Rattle.text.proofs.put_hex.Reads as reads
-use Rattle.text.proofs.put_hex.Lts as lts
-use Rattle.octets.proofs.put_bytes.Reads as put-bytes-reads
-use Rattle.text.proofs.digit.Reads as digit-reads
 
 abbrev Inv-loop : tie.InvT-loop
 Inv-loop out₀ at bytes i₀ out i = (i ≤ length bytes) × (length out ≡ length out₀) × (out ≡ paste out₀ at (hex (take i bytes)))
@@ -24,47 +19,15 @@ Inv-loop out₀ at bytes i₀ out i = (i ≤ length bytes) × (length out ≡ le
 abbrev μ-loop : tie.MeasureT-loop
 μ-loop out₀ at bytes i₀ out i = length bytes - i
 
--- src/lib.rt:53:5
 loop-holds : tie.Need-loop-holds Inv-loop μ-loop
 loop-holds c = (search needs, refl, sym (paste-nothing (now (c .before .before .args .out)) (c .before .before .args .at)))
 
--- src/lib.rt:54:17
-shared-slice-read-b : tie.Need-shared-slice-read-b Inv-loop μ-loop
-shared-slice-read-b c = search needs
-
--- src/lib.rt:55:37
-mul-put-bytes : tie.Need-mul-put-bytes Inv-loop μ-loop
-mul-put-bytes c = omega arith
-
--- src/lib.rt:55:32
-add-put-bytes : tie.Need-add-put-bytes Inv-loop μ-loop
-add-put-bytes c = omega arith
-
--- src/lib.rt:55:46
 digit-requires : tie.Need-digit-requires Inv-loop μ-loop
 digit-requires c κs = omega (arith, c .before .shared-slice-known2 .given (c .before .before .before .loop .i))
 
--- src/lib.rt:55:61
 digit-requires-2 : tie.Need-digit-requires-2 Inv-loop μ-loop
-digit-requires-2 c κs = omega arith
+digit-requires-2 c κs = omega (arith, c .before .before .shared-slice-known2 .given (c .before .before .before .before .loop .i))
 
--- src/lib.rt:55:44
-slice-aggregate-put-bytes : tie.Need-slice-aggregate-put-bytes Inv-loop μ-loop
-slice-aggregate-put-bytes c = search needs
-
--- src/lib.rt:55:9
-put-bytes-requires : tie.Need-put-bytes-requires Inv-loop μ-loop
-put-bytes-requires c κs = omega arith
-
--- src/lib.rt:56:9
-add-i : tie.Need-add-i Inv-loop μ-loop
-add-i c = omega arith
-
--- src/lib.rt:53:5
-loop-less : tie.Need-loop-less Inv-loop μ-loop
-loop-less c = omega arith
-
--- src/lib.rt:53:5
 loop-again : tie.Need-loop-again Inv-loop μ-loop
 loop-again c =
     let l = c .before .before .before .before .before .before .before .before .before .loop in
@@ -82,19 +45,6 @@ loop-again c =
           ∙ ap (paste (now (a .out)) (a .at)) (sym (hex-next (now (a .bytes)) (l .i) (search needs))),
     )
 
--- src/lib.rt:58:10
-mul-result : tie.Need-mul-result Inv-loop μ-loop
-mul-result c = omega arith
-
--- src/lib.rt:58:5
-add-result : tie.Need-add-result Inv-loop μ-loop
-add-result c = omega arith
-
--- src/lib.rt:48:1
-same-length : tie.Need-same-length Inv-loop μ-loop
-same-length c = search needs
-
--- src/lib.rt:48:1
 returns : tie.Need-returns Inv-loop μ-loop
 returns c =
     let l = c .before .loop in
@@ -109,17 +59,17 @@ put-hex-spec =
     Inv-loop
     μ-loop
     loop-holds
-    shared-slice-read-b
-    mul-put-bytes
-    add-put-bytes
+    (λ c. search needs)
+    (λ c. omega arith)
+    (λ c. omega arith)
     digit-requires
     digit-requires-2
-    slice-aggregate-put-bytes
-    put-bytes-requires
-    add-i
-    loop-less
+    (λ c. search needs)
+    (λ c κs. omega arith)
+    (λ c. omega arith)
+    (λ c. omega arith)
     loop-again
-    mul-result
-    add-result
-    same-length
+    (λ c. omega arith)
+    (λ c. omega arith)
+    (λ c. search needs)
     returns)

@@ -4,38 +4,25 @@ use native.Mathlib.Omega.{arith}
 use mathlib.Core.List.{List, [], _∷_, _++_}
 use denote.Ref.{now}
 use borrow.Author.Needs.{needs}
-use mathlib.Core.Path.{_≡_, sym, ap, _∙_}
-use lib.ListN.{length, getD}
-use Rattle.octets.specs.Runs.{paste}
+use lib.ListN.{length}
 use Rattle.text.proofs.Laws.{after}
-use Rattle.transcript.specs.Transcript.{pair, shownOf, spaced, lineOf}
-use Rattle.transcript.proofs.Laws.{pair-most, shown-most, spaced-most}
+use Rattle.transcript.specs.Transcript.{pair, spaced, lineOf}
+use Rattle.transcript.proofs.Laws.{shown-most, spaced-most}
 use Rattle.transcript.proofs.put_line.Statement.{statement}
 use Rattle.transcript.proofs.put_line.Tie as tie
 
 put-shown-requires : tie.Need-put-shown-requires
 put-shown-requires c κs =
     let a = c .before .before .before .before .before .before .before .before .before .before .before .args in
-    let kind = c .before .before .before .before .before .before .before .before .byte-at .result in
-    let stream = c .before .before .before .before .before .before .before .byte-at2 .result in
     let most : length (now (c .shown .result)) ≤ length (now (a .r)) = rw (c .shown .ensures) (shown-most (now (a .r))) in
-    (omega (arith, most), omega (arith, pair-most (a .n) (32 ∷ kind ∷ 32 ∷ []) stream, c .before .before .before .before .put-pair .ensures .0))
+    (omega (arith, most), search needs)
 
 put-word-requires : tie.Need-put-word-requires
 put-word-requires c κs =
     let a = c .before .before .before .before .before .before .before .before .before .before .before .before .before .before .before .before .args in
-    let kind = c .before .before .before .before .before .before .before .before .before .before .before .before .before .byte-at .result in
-    let stream = c .before .before .before .before .before .before .before .before .before .before .before .before .byte-at2 .result in
     let s = c .before .before .before .before .before .shown in
     let most : length (now (s .result)) ≤ length (now (a .r)) = rw (s .ensures) (shown-most (now (a .r))) in
-    omega (
-      arith,
-      most,
-      spaced-most (now (s .result)),
-      pair-most (a .n) (32 ∷ kind ∷ 32 ∷ []) stream,
-      c .before .before .before .before .before .before .before .before .before .put-pair .ensures .0,
-      c .before .before .before .before .put-shown .ensures .0,
-    )
+    omega (arith, most, spaced-most (now (s .result)), c .before .before .before .before .put-shown .ensures .0)
 
 returns : tie.Need-returns
 unfolding lineOf
@@ -44,10 +31,11 @@ returns c =
     let kind = c .before .before .before .before .before .before .before .before .before .before .before .before .before .before .before .before .byte-at in
     let stream = c .before .before .before .before .before .before .before .before .before .before .before .before .before .before .before .byte-at2 in
     let s = c .before .before .before .before .before .before .before .before .shown in
+    let q = c .before .before .before .before .before .before .before .before .before .before .before .before .put-pair .ensures in
     let p : List ℕ = pair (a .n) (32 ∷ kind .result ∷ 32 ∷ []) (stream .result) in
     rw (← kind .ensures, ← stream .ensures, ← s .ensures)
     (after (now (a .out)) (a .at) (p ++ spaced (now (s .result))) (10 ∷ []) (search needs)
-    (after (now (a .out)) (a .at) p (spaced (now (s .result))) (search needs) (c .before .before .before .before .before .before .before .before .before .before .before .before .put-pair .ensures) (c .before .before .before .before .before .before .before .put-shown .ensures))
+    (after (now (a .out)) (a .at) p (spaced (now (s .result))) (search needs) (q .0, q .2) (c .before .before .before .before .before .before .before .put-shown .ensures))
     (c .before .before .put-word .ensures))
 
 pub put-line-spec : {M : Type 1} → statement M

@@ -1,15 +1,11 @@
 -- `transcript::put_shown` meets its contract: nothing, or a space and the digits.
 use native.Mathlib.Omega.{arith}
-use mathlib.Core.List.{List, [], _∷_, _++_}
+use mathlib.Core.List.{[], _∷_}
 use denote.Ref.{now}
 use borrow.Author.Needs.{needs}
-use mathlib.Core.Path.{_≡_, refl, sym, ap, _∙_}
-use Prim.Native.Nat.{ℕ, _+_}
-use lib.ListN.{length}
-use Rattle.octets.specs.Runs.{paste}
+use mathlib.Core.Path.{sym}
 use Rattle.text.specs.Digits.{hex}
 use Rattle.text.proofs.Laws.{after, paste-nothing}
-use Rattle.transcript.specs.Transcript.{spaced}
 use Rattle.transcript.proofs.Laws.{spaced-none, spaced-some}
 use Rattle.transcript.proofs.put_shown.Statement.{statement}
 use Rattle.transcript.proofs.put_shown.Tie as tie

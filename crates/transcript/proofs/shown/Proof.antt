@@ -1,13 +1,8 @@
 -- `transcript::shown` meets its contract.
-use Prim.Native.Nat.{ℕ, _-_}
 use native.Mathlib.Omega.{arith}
-use mathlib.Core.Path.{ap, _∙_}
-use denote.Ref.{now}
-use lib.ListN.{getD}
 use borrow.Author.Needs.{needs}
 use Rattle.ledger.specs.Choice.{_⇒_∣_}
-use Rattle.octets.specs.Runs.{part}
-use Rattle.transcript.specs.Transcript.{isMessage, shownOf, sizeOut}
+use Rattle.transcript.specs.Transcript.{shownOf}
 use Rattle.transcript.proofs.Laws.{size-least, size-most}
 use Rattle.transcript.proofs.shown.Statement.{statement}
 use Rattle.transcript.proofs.shown.Tie as tie
