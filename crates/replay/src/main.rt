@@ -97,8 +97,8 @@ fn drained(output: &[u8], t: Turn) -> Turn
         filled: 0,
         calls: t.calls,
         refused: t.refused,
-        goes_on: written,
-        failed: !written,
+        goes_on: t.goes_on && written,
+        failed: t.failed || !written,
     }
 }
 
