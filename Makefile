@@ -26,7 +26,7 @@ BENCH = $(wildcard c/bench/*.c)
 HEADERS = $(wildcard c/*.h c/*/*.h c/*/*/*.h)
 CAPTURES = $(patsubst captures/%.records,target/captures/%,$(wildcard captures/*.records))
 
-.PHONY: all check demo replay lib c sanitized example captures texts definitions entries harness selftest coverage \
+.PHONY: all check demo replay lib c sanitized example captures texts alike definitions entries harness selftest coverage \
 	compare bench instructions paper clean
 
 all: c captures
@@ -162,7 +162,11 @@ texts: $(REPLAY) target/c/second captures
 	tools/texts $(REPLAY)
 	tools/texts target/c/second
 
-# the same by the definitions
+# 100 generated captures of 400 calls print the same by all three programs
+alike: $(REPLAY) target/c/kungthevi target/c/second target/c/generate
+	tools/alike 100 400
+
+# the named captures by the definitions
 definitions:
 	tools/definitions.py
 
