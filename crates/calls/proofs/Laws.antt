@@ -17,7 +17,7 @@ use Rattle.octets.specs.Blocks.{flat}
 use Rattle.octets.proofs.Laws.{paste-join, flat-length}
 use Rattle.paper.specs.Base.{Slot, Table, slot, stream, waiting, withCalls}
 use Rattle.paper.specs.declared.Stream.{Stream}
-use Rattle.image.specs.Layout.{slotBase, listed, waitingFrom, slotAt, tableOf, padTo, streamBytes, waitingBytes, slotBytes, imageOf}
+use Rattle.image.specs.Layout.{slotBase, listed, waitingFrom, slotAt, tableOf, padTo, joined, streamBytes, waitingBytes, slotBytes, imageOf}
 use Rattle.image.specs.Lent.{Lent}
 use Rattle.image.proofs.Joined.{listed-length, listed-at, pad-length, pad-more, part-length, part-add, part-be32}
 use Rattle.image.proofs.Shapes.{stream-length}
@@ -61,6 +61,19 @@ module _ (img : List ℕ) (l : Lent img) (i : ℕ) (b : i < 16) where
       → paste img (slotBase i) (streamBytes s ++ waitingBytes w) ≡ imageOf (withCalls (tableOf img) i s w)
   calls-stored s w h =
       ap (λ (r : List ℕ). paste r (slotBase i) (streamBytes s ++ waitingBytes w)) (sym (l .same)) ∙ store-calls (tableOf img) (l .shaped) i b s w h
+
+-- ---- in a row
+
+-- what one of a list has is copied behind what those before it have
+pub copied-on : {A : Type 0} (f : A → List ℕ) (d : A) (l : List A) (i : ℕ) → i < length l → (b : List ℕ) (n m : ℕ) → n ≤ length b
+    → m ≡ n + length (f (getD l i d)) → take m (paste b n (f (getD l i d))) ++ joined f (drop (i + 1) l) ≡ take n b ++ joined f (drop i l)
+copied-on f d l i h b n m k e =
+    let w : List ℕ = f (getD l i d) in
+    let j : joined f (drop i l) ≡ w ++ joined f (drop (i + 1) l) = rw add-one (ap (joined f) (drop-cons l i d h)) in
+    let c : length (take n b ++ w) ≡ m = omega (arith, length-append (take n b) w, length-take-le n b k) in
+    ap (λ (r : List ℕ). r ++ joined f (drop (i + 1) l)) (take-at (take n b ++ w) (drop (n + length w) b) m c)
+    ∙ append-assoc (take n b) w (joined f (drop (i + 1) l))
+    ∙ ap (λ (r : List ℕ). take n b ++ r) (sym j)
 
 -- ---- one more, one less
 

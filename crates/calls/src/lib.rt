@@ -1,15 +1,15 @@
-// The open numbers of the streams: reading, counting, the next number, one more, one less.
+// The open numbers of the streams: reading, counting, all in a row, the next number, one more, one less.
 ghost use mathlib.Core.Path.{_≡_};
 ghost use mathlib.Core.List.{[], _∷_, _++_};
-ghost use Prim.Native.Nat.{suc, _<_};
+ghost use Prim.Native.Nat.{suc, _+_, _<_, _≤_};
 ghost use lib.Dec.{eqb};
 ghost use lib.ListN.{length, getD, take, drop};
 ghost use Rattle.ledger.specs.Tally.{occ, without, firstOf, free};
 ghost use Rattle.octets.specs.Runs.{paste};
-ghost use Rattle.paper.specs.Base.{waiting, withCalls};
+ghost use Rattle.paper.specs.Base.{Slot, waiting, withCalls};
 ghost use Rattle.paper.specs.ErrorOrder.{isWaiting};
 ghost use Rattle.paper.specs.Correlations.{occurrences, nextNumber};
-ghost use Rattle.image.specs.Layout.{slotBase, tableOf, streamBytes, waitingBytes, imageOf};
+ghost use Rattle.image.specs.Layout.{slotBase, tableOf, joined, streamBytes, waitingBytes, imageOf};
 ghost use Rattle.image.specs.Lent.{Lent};
 use paper::Correlation;
 use paper::Stream;
@@ -19,7 +19,7 @@ pub fn call_at(img: &[u8], i: usize, k: usize) -> Correlation
     requires { ⌜ (i < 16) × (length (now img) ≡ 760) × Lent (now img) × (k < length (waiting (tableOf (now img)) i)) ⌝ }
     ensures { λ r. ⌜ r ≡ record { 0 = getD (waiting (tableOf (now (img .entry))) i) k 0 } ⌝ }
 {
-    Correlation(octets::number32_at(img, i * 42 + k * 4 + 98))
+    Correlation(octets::number32_inside(img, i * 42 + k * 4 + 98))
 }
 
 // The first place of a number among a stream's open ones, or their count where it is not open.
@@ -79,7 +79,7 @@ fn occurs_on(img: &[u8], i: usize, n: u32) -> u32
 }
 
 // How often a number is open in the table.
-pub fn occurrences(img: &[u8], n: u32) -> u32
+fn occurrences(img: &[u8], n: u32) -> u32
     requires { ⌜ (length (now img) ≡ 760) × Lent (now img) ⌝ }
     ensures { λ r. ⌜ r ≡ occurrences (tableOf (now (img .entry))) n ⌝ }
 {
@@ -87,6 +87,36 @@ pub fn occurrences(img: &[u8], n: u32) -> u32
     let mut i: usize = 0;
     while i < 16 {
         total += occurs_on(img, i, n);
+        i += 1;
+    }
+    total
+}
+
+// A stream's open numbers over others, from a place on.
+fn copy_calls(img: &[u8], i: usize, dst: &mut [u32], at: usize)
+    requires { ⌜ (i < 16) × (length (now img) ≡ 760) × Lent (now img) × (at + length (waiting (tableOf (now img)) i) ≤ length (now dst)) ⌝ }
+    ensures { λ _. ⌜ now (dst .exit) ≡ paste (now (dst .entry)) at (waiting (tableOf (now (img .entry))) i) ⌝ }
+{
+    let count = image::count_at(img, i) as usize;
+    let mut k: usize = 0;
+    while k < count {
+        let c = call_at(img, i, k);
+        dst[at + k] = c.0;
+        k += 1;
+    }
+}
+
+// The open numbers of all streams, one stream's behind another's, and how many they are: in a row they are compared
+// many at once.
+pub fn open_numbers(img: &[u8], dst: &mut [u32]) -> usize
+    requires { ⌜ (length (now img) ≡ 760) × Lent (now img) × (length (now dst) ≡ 128) ⌝ }
+    ensures { λ r. ⌜ (r ≤ 128) × (take r (now (dst .exit)) ≡ joined (λ (x : Slot). x .waiting) (tableOf (now (img .entry)) .slots)) ⌝ }
+{
+    let mut total: usize = 0;
+    let mut i: usize = 0;
+    while i < 16 {
+        copy_calls(img, i, dst, total);
+        total += image::count_at(img, i) as usize;
         i += 1;
     }
     total

@@ -35,8 +35,8 @@ fn stream_from(c: &[u8]) -> Stream
     ensures { λ r. ⌜ r ≡ streamFrom (now (c .entry)) ⌝ }
 {
     let state = state_of(c[0]);
-    let sap = octets::number16_at(c, 2);
-    let ppa = PpaNumber(octets::number32_at(c, 4));
+    let sap = octets::number16_inside(c, 2);
+    let ppa = PpaNumber(octets::number32_inside(c, 4));
     Stream {
         state: state,
         mode: c[1],
@@ -74,14 +74,14 @@ pub fn ppa_at(img: &[u8], i: usize) -> PpaNumber
     requires { ⌜ (i < 16) × (length (now img) ≡ 760) ⌝ }
     ensures { λ r. ⌜ r ≡ stream (tableOf (now (img .entry))) i .ppa ⌝ }
 {
-    PpaNumber(octets::number32_at(img, i * 42 + 88 + 4))
+    PpaNumber(octets::number32_inside(img, i * 42 + 88 + 4))
 }
 
 pub fn sap_at(img: &[u8], i: usize) -> u16
     requires { ⌜ (i < 16) × (length (now img) ≡ 760) ⌝ }
     ensures { λ r. ⌜ r ≡ stream (tableOf (now (img .entry))) i .sap ⌝ }
 {
-    octets::number16_at(img, i * 42 + 88 + 2)
+    octets::number16_inside(img, i * 42 + 88 + 2)
 }
 
 // How many indications of a stream are open.
@@ -125,9 +125,10 @@ pub fn store_stream(img: &mut [u8], i: usize, s: Stream)
 // ---- the mask: bit i is 1 exactly if stream i is closed
 
 fn mask_in(img: &[u8]) -> u16
+    requires { ⌜ length (now img) ≡ 760 ⌝ }
     ensures { λ r. ⌜ r ≡ maskIn (now (img .entry)) ⌝ }
 {
-    octets::number16_at(img, 0)
+    octets::number16_inside(img, 0)
 }
 
 fn mask_without(m: u16, i: usize) -> u16
@@ -212,7 +213,7 @@ pub fn counter(img: &[u8]) -> u32
     requires { ⌜ length (now img) ≡ 760 ⌝ }
     ensures { λ r. ⌜ r ≡ tableOf (now (img .entry)) .counter ⌝ }
 {
-    octets::number32_at(img, 4)
+    octets::number32_inside(img, 4)
 }
 
 pub fn store_counter(img: &mut [u8], n: u32)

@@ -1,4 +1,4 @@
--- Searches of lists, the PPAs in an image, the open streams of a table.
+-- Searches of lists, who listens, the PPAs in an image, the open streams of a table.
 use Prim.Native.Nat.{ℕ, zero, suc, _+_, _≤_, _<_}
 use native.Mathlib.Omega.{arith}
 use native.Mathlib.Nat.{zero-add}
@@ -8,10 +8,13 @@ use mathlib.Core.List.{List, [], _∷_, map}
 use lib.ListN.{length, getD}
 use lib.Dec.{eqb, ltb, leb·suc-suc}
 use borrow.Author.Tests.{eqb-true, eqb-false, eq-eqb, ne-eqb, lt-ltb}
-use Rattle.ledger.specs.Choice.{pick}
+use Rattle.ledger.specs.Choice.{pick, both}
 use Rattle.ledger.specs.Tally.{oneIf, occ, has, firstOf}
 use Rattle.ledger.proofs.Tallies.{picked, within}
 use Rattle.paper.specs.Base.{Slot, Table, slot, closed, noPpa}
+use Rattle.paper.specs.Saps.{listens}
+use Rattle.paper.specs.declared.PpaNumber.{PpaNumber}
+use Rattle.paper.specs.declared.Stream.{Stream}
 use Rattle.image.specs.Layout.{ppaAt, tableOf}
 use Rattle.image.specs.Shape.{Shaped}
 use Rattle.image.proofs.Joined.{listed-at, listed-length}
@@ -53,6 +56,21 @@ has-first {A = A} f n (x ∷ l) = go (eqb n (f x)) refl (has-first f n l)
         → ltb 0 (oneIf b + occ n (map f l)) ≡ ltb (firstOf (λ (q : A). eqb (f q) n) (x ∷ l)) (suc (length l))
     go true e r = rw (eq-eqb (f x) n (sym (eqb-true n (f x) e)), lt-ltb 0 (1 + occ n (map f l)) (omega arith), lt-ltb 0 (suc (length l)) (omega arith))
     go false e r = rw (zero-add, ne-eqb (f x) n (λ q. eqb-false n (f x) e (sym q)), leb·suc-suc) r
+
+-- ---- who listens
+
+-- the SAP may be asked first
+pub sap-first : (p : PpaNumber) (sap : ℕ) (s : Stream) → listens p sap s ≡ both (eqb (s .sap) sap) (both (ltb 0 (s .granted)) (eqb (s .ppa .0) (p .0)))
+unfolding listens
+sap-first p sap s = go (ltb 0 (s .granted)) (eqb (s .ppa .0) (p .0)) (eqb (s .sap) sap)
+  where
+    go : (a b c : Bool) → both a (both b c) ≡ both c (both a b)
+    go true true true = refl
+    go true true false = refl
+    go true false true = refl
+    go true false false = refl
+    go false b true = refl
+    go false b false = refl
 
 -- ---- images and tables
 

@@ -21,7 +21,7 @@ fn is_ppa(img: &[u8], p: PpaNumber, k: usize) -> bool
     ensures { λ r. ⌜ r ≡ eqb (getD (tableOf (now (img .entry)) .ppas) k noPpa .number .0) (p .0) ⌝ }
 {
     let at = k * 10 + 8;
-    octets::number32_at(&img[at..at + 10], 0) == p.0
+    octets::number32_inside(&img[at..at + 10], 0) == p.0
 }
 
 // The place of the PPA with a number; as many as there are PPAs where none has it.
@@ -71,18 +71,18 @@ pub fn mac_of(img: &[u8], p: PpaNumber) -> [u8; 6]
     [0; 6]
 }
 
-// A stream that was granted over 0 listens, for its PPA and SAP. What was granted is asked first: it is 0 for most.
+// A stream that was granted over 0 listens, for its PPA and SAP. The SAP is asked first: it is another for most.
 pub fn listens_at(img: &[u8], p: PpaNumber, sap: u32, i: usize) -> bool
     requires { ⌜ (i < 16) × (length (now img) ≡ 760) ⌝ }
     ensures { λ r. ⌜ r ≡ listens p sap (stream (tableOf (now (img .entry))) i) ⌝ }
 {
+    if image::sap_at(img, i) as u32 != sap {
+        return false;
+    }
     if image::granted_at(img, i) == 0 {
         return false;
     }
-    if image::ppa_at(img, i).0 != p.0 {
-        return false;
-    }
-    image::sap_at(img, i) as u32 == sap
+    image::ppa_at(img, i).0 == p.0
 }
 
 // The stream that listens for a PPA and SAP; 16 where nobody does.

@@ -46,6 +46,22 @@ pub fn number32_at(s: &[u8], at: usize) -> u32
     a * 16777216 + b * 65536 + c * 256 + d
 }
 
+// The number in two bytes that are known to be there: no end is looked for.
+pub fn number16_inside(s: &[u8], at: usize) -> u16
+    requires { ⌜ at + 2 ≤ length (now s) ⌝ }
+    ensures { λ r. ⌜ r ≡ be16At (now (s .entry)) at ⌝ }
+{
+    (wide(s[at]) * 256 + wide(s[at + 1])) as u16
+}
+
+// The number in four bytes that are known to be there: no end is looked for.
+pub fn number32_inside(s: &[u8], at: usize) -> u32
+    requires { ⌜ at + 4 ≤ length (now s) ⌝ }
+    ensures { λ r. ⌜ r ≡ be32At (now (s .entry)) at ⌝ }
+{
+    wide(s[at]) * 16777216 + wide(s[at + 1]) * 65536 + wide(s[at + 2]) * 256 + wide(s[at + 3])
+}
+
 // Bytes over others from a place on.
 pub fn put_bytes(dst: &mut [u8], at: usize, src: &[u8])
     requires { ⌜ at + length (now src) ≤ length (now dst) ⌝ }

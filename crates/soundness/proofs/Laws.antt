@@ -2,7 +2,7 @@
 use Prim.Native.Nat.{ℕ, zero, suc, _+_, _≤_, _<_}
 use mathlib.Core.Path.{_≡_, refl, sym, ap, _∙_}
 use mathlib.Core.Bool.{Bool, true, false, not}
-use mathlib.Core.List.{List, [], _∷_, map}
+use mathlib.Core.List.{List, [], _∷_, _++_, map}
 use lib.ListN.{length, getD, drop, drop-of-length-le}
 use lib.Seq.{drop-cons}
 use lib.Dec.{eqb, ltb}
@@ -12,7 +12,7 @@ use borrow.Author.Tests.{eqb-true, eq-eqb, ne-eqb, lt-ltb, not-true, not-false}
 use Rattle.ledger.specs.Choice.{both}
 use Rattle.ledger.specs.Tally.{oneIf, occ, sumOf, allOf}
 use Rattle.ledger.proofs.Tallies.{at-all}
-use Rattle.image.specs.Layout.{areBytes}
+use Rattle.image.specs.Layout.{areBytes, joined}
 
 -- ---- tests
 
@@ -36,6 +36,10 @@ both-assoc false b c = refl
 both-none : (b : Bool) → both b false ≡ false
 both-none true = refl
 both-none false = refl
+
+pub both-swap : (a b c : Bool) → both a (both b c) ≡ both b (both a c)
+both-swap true b c = refl
+both-swap false b c = sym (both-none b)
 
 -- what is below 256 everywhere is bytes
 pub bytes : (l : List ℕ) → ((k : ℕ) → getD l k 0 < 256) → areBytes l ≡ true
@@ -84,6 +88,23 @@ all-both p q (x ∷ l) = go (p x) (q x) (allOf p l) (allOf q l) (all-both p q l)
 pub occ-sum : (n : ℕ) (l : List ℕ) → occ n l ≡ sumOf (λ (x : ℕ). oneIf (eqb n x)) l
 occ-sum n [] = refl
 occ-sum n (x ∷ l) = ap (λ (m : ℕ). oneIf (eqb n x) + m) (occ-sum n l)
+
+-- over lists laid end to end
+pub occ-joined : {A : Type 0} (f : A → List ℕ) (n : ℕ) (l : List A) → sumOf (λ x. occ n (f x)) l ≡ occ n (joined f l)
+occ-joined f n [] = refl
+occ-joined f n (x ∷ l) = ap (λ (m : ℕ). occ n (f x) + m) (occ-joined f n l) ∙ sym (append (f x) (joined f l))
+  where
+    append : (a b : List ℕ) → occ n (a ++ b) ≡ occ n a + occ n b
+    append [] b = omega arith
+    append (y ∷ a) b = omega (arith, append a b)
+
+pub all-joined : {A : Type 0} (f : A → List ℕ) (p : ℕ → Bool) (l : List A) → allOf (λ x. allOf p (f x)) l ≡ allOf p (joined f l)
+all-joined f p [] = refl
+all-joined f p (x ∷ l) = ap (both (allOf p (f x))) (all-joined f p l) ∙ sym (append (f x) (joined f l))
+  where
+    append : (a b : List ℕ) → allOf p (a ++ b) ≡ both (allOf p a) (allOf p b)
+    append [] b = refl
+    append (y ∷ a) b = ap (both (p y)) (append a b) ∙ sym (both-assoc (p y) (allOf p a) (allOf p b))
 
 -- a test is passed by all exactly if it is passed as often as there are places
 pub all-counted : {A : Type 0} (p : A → Bool) (l : List A) → eqb (sumOf (λ x. oneIf (p x)) l) (length l) ≡ allOf p l

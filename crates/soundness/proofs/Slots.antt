@@ -16,6 +16,7 @@ use Rattle.octets.specs.Runs.{part, allZero}
 use Rattle.octets.proofs.Laws.{be32At-be32, zero-replicate}
 use Rattle.paper.specs.Base.{numberOf, isIn, noStream, Slot, closed, Table, slot, ppaNumbers, noPpa}
 use Rattle.paper.specs.Sound.{every, unbound, holdsNothing, openTests, soundSlot, isSingle, isAlone, remembersOpenings, soundTests, sound}
+use Rattle.paper.specs.Correlations.{occurrences}
 use Rattle.paper.specs.Rows.{everyState}
 use Rattle.paper.specs.declared.State.{State}
 use Rattle.paper.specs.declared.State.the-variants.{Unattached, Unbound, Idle, OutconPending, InconPending, DataXfer, UserResetPending, ProvResetPending}
@@ -28,8 +29,8 @@ use Rattle.image.proofs.Shapes.{slots-wide, header-length}
 use Rattle.image.proofs.TableBack.{be32At-part}
 use Rattle.image.proofs.Lending.{lent-tidy}
 use Rattle.lookup.proofs.Laws.{ppa-place}
-use Rattle.soundness.proofs.Laws.{both-assoc, same-test, map-at, all-both}
-use Rattle.soundness.specs.Groups.{isAttachedRight, isBoundRight, isCountRight, isStreamSound}
+use Rattle.soundness.proofs.Laws.{both-assoc, both-swap, same-test, map-at, all-both, occ-joined, all-joined}
+use Rattle.soundness.specs.Groups.{isAttachedRight, isBoundRight, isCountRight, openNumbers, isSingleIn, areSingle, isStreamSound}
 
 -- ---- states
 
@@ -155,14 +156,24 @@ closed-bytes img l i h =
 
 -- ---- the clauses, those of the streams in one
 
+-- an open number is single in the table exactly if it is among all that are open
+singles : (t : Table) → allOf (λ (x : Slot). allOf (isSingle t) (x .waiting)) (t .slots) ≡ areSingle (openNumbers t)
+unfolding isSingle occurrences isSingleIn
+singles t =
+    let numbers : Slot → List ℕ = λ x. x .waiting in
+    let p : (n : ℕ) → isSingle t n ≡ isSingleIn (openNumbers t) n = λ n. ap (λ (m : ℕ). both (ltb 0 n) (leb m 1)) (occ-joined numbers n (t .slots)) in
+    all-joined numbers (isSingle t) (t .slots) ∙ ap (λ (q : ℕ → Bool). allOf q (openNumbers t)) (λ d n. p n d)
+
 pub sound-groups : (t : Table) → length (t .ppas) ≤ 8
-    → sound t ≡ both (allOf (λ (p : ℕ). leb (occ p (ppaNumbers t)) 1) (ppaNumbers t)) (both (allOf (isStreamSound t) (t .slots)) (remembersOpenings t))
+    → sound t
+    ≡ both (allOf (λ (p : ℕ). leb (occ p (ppaNumbers t)) 1) (ppaNumbers t))
+    (both (allOf (isStreamSound t) (t .slots)) (both (areSingle (openNumbers t)) (remembersOpenings t)))
 unfolding sound isStreamSound
 sound-groups t h =
     let own : Slot → Bool = soundSlot (ppaNumbers t) in
     let single : Slot → Bool = λ x. allOf (isSingle t) (x .waiting) in
     let alone : Slot → Bool = λ x. isAlone t (x .stream) in
-    rw (le-leb (length (t .ppas)) 8 h, both-true (remembersOpenings t), all-both own (λ x. both (single x) (alone x)) (t .slots), all-both single alone (t .slots)) (simp both-assoc)
+    rw (le-leb (length (t .ppas)) 8 h, both-true (remembersOpenings t), ← singles t, all-both own alone (t .slots), both-assoc (allOf own (t .slots)) (allOf alone (t .slots)), both-swap (allOf alone (t .slots)) (allOf single (t .slots)))
 
 -- ---- what a sound table and a sound image give
 

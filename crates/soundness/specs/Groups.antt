@@ -4,11 +4,12 @@ use mathlib.Core.Bool.{Bool}
 use mathlib.Core.List.{List}
 use lib.Dec.{eqb, ltb, leb}
 use Rattle.ledger.specs.Choice.{pick, both, asks}
-use Rattle.ledger.specs.Tally.{has, allOf}
+use Rattle.ledger.specs.Tally.{occ, has, allOf}
 use Rattle.paper.specs.Base.{number, isIn, isBound, Slot, Table, ppaNumbers}
 use Rattle.paper.specs.Saps.{asBindAllows}
-use Rattle.paper.specs.Sound.{every, sameAnswer, unbound, soundSlot, isSingle, isAlone}
+use Rattle.paper.specs.Sound.{every, sameAnswer, unbound, soundSlot, isAlone}
 use Rattle.paper.specs.declared.Stream.{Stream}
+use Rattle.image.specs.Layout.{joined}
 
 -- ---- an open stream (`openTests`)
 
@@ -24,6 +25,17 @@ isBoundRight s = both (pick (isBound s) (asBindAllows s) (every (unbound s))) (a
 unfoldable pub isCountRight : Stream → ℕ → Bool
 isCountRight s count = both (sameAnswer (isIn 9 s) (ltb 0 count)) (leb count (s .granted))
 
--- ---- a stream among the others: sound by itself, its open numbers single, alone in listening
+-- ---- the open numbers of all streams, in a row: none is 0 or occurs twice
+
+abbrev pub openNumbers : Table → List ℕ
+openNumbers t = joined (λ (x : Slot). x .waiting) (t .slots)
+
+unfoldable pub isSingleIn : List ℕ → ℕ → Bool
+isSingleIn l n = both (ltb 0 n) (leb (occ n l) 1)
+
+abbrev pub areSingle : List ℕ → Bool
+areSingle l = allOf (isSingleIn l) l
+
+-- ---- a stream among the others: sound by itself, alone in listening
 unfoldable pub isStreamSound : Table → Slot → Bool
-isStreamSound t x = both (soundSlot (ppaNumbers t) x) (both (allOf (isSingle t) (x .waiting)) (isAlone t (x .stream)))
+isStreamSound t x = both (soundSlot (ppaNumbers t) x) (isAlone t (x .stream))

@@ -4,11 +4,11 @@ ghost use Prim.Native.Nat.{ℕ, _<_, _≤_};
 ghost use lib.ListN.{length, getD};
 ghost use lib.Dec.{leb};
 ghost use Rattle.ledger.specs.Tally.{oneIf, occ, allOf};
-ghost use Rattle.paper.specs.Base.{slot, stream, waiting, ppaNumbers};
-ghost use Rattle.paper.specs.Sound.{every, unbound, openTests, soundSlot, isSingle, listenersOf, isAlone, remembersOpenings, sound};
+ghost use Rattle.paper.specs.Base.{slot, stream, ppaNumbers};
+ghost use Rattle.paper.specs.Sound.{every, unbound, openTests, soundSlot, listenersOf, isAlone, remembersOpenings, sound};
 ghost use Rattle.image.specs.Layout.{tableOf, isState, tidySlot, slotParts, tidyPpas, tidy, soundImage};
 ghost use Rattle.image.specs.Lent.{Lent};
-ghost use Rattle.soundness.specs.Groups.{isAttachedRight, isBoundRight, isCountRight, isStreamSound};
+ghost use Rattle.soundness.specs.Groups.{isAttachedRight, isBoundRight, isCountRight, openNumbers, isSingleIn, areSingle, isStreamSound};
 use paper::PpaNumber;
 use paper::Stream;
 
@@ -85,7 +85,7 @@ fn ppa_number(img: &[u8], k: usize) -> u32
     requires { ⌜ (k < length (tableOf (now img) .ppas)) × Lent (now img) ⌝ }
     ensures { λ r. ⌜ r ≡ getD (ppaNumbers (tableOf (now (img .entry)))) k 0 ⌝ }
 {
-    octets::number32_at(img, k * 10 + 8)
+    octets::number32_inside(img, k * 10 + 8)
 }
 
 fn one_if(b: bool) -> u32
@@ -211,30 +211,51 @@ fn is_slot_sound(img: &[u8], i: usize) -> bool
 
 // ---- no open number is 0 or occurs twice
 
-fn is_single(img: &[u8], n: u32) -> bool
-    requires { ⌜ (length (now img) ≡ 760) × Lent (now img) ⌝ }
-    ensures { λ r. ⌜ r ≡ isSingle (tableOf (now (img .entry))) n ⌝ }
+// How often a number is among others: all are looked at, so that many can be at once.
+fn occurs_in(numbers: &[u32], n: u32) -> u32
+    requires { ⌜ length (now numbers) ≤ 128 ⌝ }
+    ensures { λ r. ⌜ r ≡ occ n (now (numbers .entry)) ⌝ }
+{
+    let mut found: u32 = 0;
+    let mut k: usize = 0;
+    while k < numbers.len() {
+        found += one_if(n == numbers[k]);
+        k += 1;
+    }
+    found
+}
+
+fn is_single(numbers: &[u32], n: u32) -> bool
+    requires { ⌜ length (now numbers) ≤ 128 ⌝ }
+    ensures { λ r. ⌜ r ≡ isSingleIn (now (numbers .entry)) n ⌝ }
 {
     if n == 0 {
         return false;
     }
-    calls::occurrences(img, n) <= 1
+    occurs_in(numbers, n) <= 1
 }
 
-fn are_numbers_single(img: &[u8], i: usize) -> bool
-    requires { ⌜ (i < 16) × (length (now img) ≡ 760) × Lent (now img) ⌝ }
-    ensures { λ r. ⌜ r ≡ allOf (isSingle (tableOf (now (img .entry)))) (waiting (tableOf (now (img .entry))) i) ⌝ }
+fn are_single(numbers: &[u32]) -> bool
+    requires { ⌜ length (now numbers) ≤ 128 ⌝ }
+    ensures { λ r. ⌜ r ≡ areSingle (now (numbers .entry)) ⌝ }
 {
-    let count = image::count_at(img, i) as usize;
     let mut k: usize = 0;
-    while k < count {
-        let n = calls::call_at(img, i, k);
-        if !is_single(img, n.0) {
+    while k < numbers.len() {
+        if !is_single(numbers, numbers[k]) {
             return false;
         }
         k += 1;
     }
     true
+}
+
+fn are_numbers_single(img: &[u8]) -> bool
+    requires { ⌜ (length (now img) ≡ 760) × Lent (now img) ⌝ }
+    ensures { λ r. ⌜ r ≡ areSingle (openNumbers (tableOf (now (img .entry)))) ⌝ }
+{
+    let mut numbers = [0u32; 128];
+    let total = calls::open_numbers(img, &mut numbers);
+    are_single(&numbers[0..total])
 }
 
 // ---- no two streams listen for one PPA and SAP
@@ -273,9 +294,6 @@ fn is_stream_sound(img: &[u8], i: usize) -> bool
     if !is_slot_sound(img, i) {
         return false;
     }
-    if !are_numbers_single(img, i) {
-        return false;
-    }
     is_alone(img, i)
 }
 
@@ -312,6 +330,9 @@ fn is_sound(img: &[u8]) -> bool
         return false;
     }
     if !are_streams_sound(img) {
+        return false;
+    }
+    if !are_numbers_single(img) {
         return false;
     }
     remembers_openings(img)

@@ -15,7 +15,7 @@ returns : tie.Need-returns
 returns c =
     let s = c .before .before in
     let a = s .args in
-    ap (λ (v : ℕ). record { 0 = v }) (c .number32-at .ensures ∙ number-at (now (a .img)) (s .pre .2) (a .i) (s .pre .0) (a .k) (s .pre .3))
+    ap (λ (v : ℕ). record { 0 = v }) (c .number32-inside .ensures ∙ number-at (now (a .img)) (s .pre .2) (a .i) (s .pre .0) (a .k) (s .pre .3))
 
 pub call-at-spec : {M : Type 1} → statement M
 call-at-spec =

@@ -1,3 +1,4 @@
+-- `image::counter` meets its contract: it is read where the layout has it.
 use Rattle.image.specs.Layout.{tableOf}
 use borrow.Author.Needs.{needs}
 use Rattle.image.proofs.counter.Statement.{statement}
@@ -5,7 +6,7 @@ use Rattle.image.proofs.counter.Tie as tie
 
 returns : tie.Need-returns
 unfolding tableOf
-returns c = c .number32-at .ensures
+returns c = c .number32-inside .ensures
 
 pub counter-spec : {M : Type 1} → statement M
 counter-spec = tie.close (tie.spec (λ c κs. search needs) returns)

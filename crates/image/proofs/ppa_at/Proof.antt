@@ -1,3 +1,4 @@
+-- `image::ppa_at` meets its contract: the bytes of a slot are bytes of the image.
 use Prim.Native.Nat.{ℕ, _+_}
 use mathlib.Core.Path.{refl, sym, ap, _∙_}
 use native.Mathlib.Omega.{arith}
@@ -16,7 +17,7 @@ returns c =
     let a = c .before .before in
     let img = now (a .args .img) in
     let i = a .args .i in
-    ap (λ (n : ℕ). record { 0 = n }) (c .number32-at .ensures ∙ sym (ap (λ (x : Slot). x .stream .ppa .0) (slot-at img i (a .pre .0)) ∙ part-be32 img (slotBase i) 42 4 (slotBase i + 4) (omega arith) refl))
+    ap (λ (n : ℕ). record { 0 = n }) (c .number32-inside .ensures ∙ sym (ap (λ (x : Slot). x .stream .ppa .0) (slot-at img i (a .pre .0)) ∙ part-be32 img (slotBase i) 42 4 (slotBase i + 4) (omega arith) refl))
 
 pub ppa-at-spec : {M : Type 1} → statement M
 ppa-at-spec =

@@ -1,3 +1,4 @@
+-- `image::sap_at` meets its contract: the bytes of a slot are bytes of the image.
 use Prim.Native.Nat.{_+_}
 use mathlib.Core.Path.{refl, sym, ap, _∙_}
 use native.Mathlib.Omega.{arith}
@@ -16,7 +17,7 @@ returns c =
     let a = c .before .before in
     let img = now (a .args .img) in
     let i = a .args .i in
-    c .number16-at .ensures ∙ sym (ap (λ (x : Slot). x .stream .sap) (slot-at img i (a .pre .0)) ∙ part-be16 img (slotBase i) 42 2 (slotBase i + 2) (omega arith) refl)
+    c .number16-inside .ensures ∙ sym (ap (λ (x : Slot). x .stream .sap) (slot-at img i (a .pre .0)) ∙ part-be16 img (slotBase i) 42 2 (slotBase i + 2) (omega arith) refl)
 
 pub sap-at-spec : {M : Type 1} → statement M
 sap-at-spec =

@@ -1,3 +1,4 @@
+-- `image::stream_from` meets its contract: each field is read where the layout has it.
 use Rattle.image.specs.Layout.{streamFrom}
 use borrow.Author.Needs.{needs}
 use Rattle.image.proofs.stream_from.Statement.{statement}
@@ -5,7 +6,7 @@ use Rattle.image.proofs.stream_from.Tie as tie
 
 returns : tie.Need-returns
 unfolding streamFrom
-returns c = rw (c .before .before .number32-at .ensures, c .before .before .before .number16-at .ensures, c .before .before .before .before .state-of .ensures)
+returns c = rw (c .before .before .number32-inside .ensures, c .before .before .before .number16-inside .ensures, c .before .before .before .before .state-of .ensures)
 
 pub stream-from-spec : {M : Type 1} → statement M
 stream-from-spec =

@@ -1,3 +1,4 @@
+-- `soundness::is_stream_sound` meets its contract: the two groups of tests, in their order.
 use borrow.Author.Needs.{needs}
 use Rattle.soundness.specs.Groups.{isStreamSound}
 use Rattle.soundness.proofs.Laws.{told, told-not}
@@ -10,19 +11,7 @@ returns c = simp (told-not (c .before .is-slot-sound .ensures) (c .if1 .taken))
 
 returns-2 : tie.Need-returns-2
 unfolding isStreamSound
-returns-2 c = simp (told (c .before .before .before .is-slot-sound .ensures) (c .before .before .if1 .left), told-not (c .before .are-numbers-single .ensures) (c .if2 .taken))
-
-returns-3 : tie.Need-returns-3
-unfolding isStreamSound
-returns-3 c = simp (told (c .before .before .before .before .is-slot-sound .ensures) (c .before .before .before .if1 .left), told (c .before .before .are-numbers-single .ensures) (c .before .if2 .left)) (c .is-alone .ensures)
+returns-2 c = simp (told (c .before .before .is-slot-sound .ensures) (c .before .if1 .left)) (c .is-alone .ensures)
 
 pub is-stream-sound-spec : {M : Type 1} → statement M
-is-stream-sound-spec =
-    tie.close
-    (tie.spec
-    (λ c κs. search needs)
-    returns
-    (λ c κs. search needs)
-    returns-2
-    (λ c κs. search needs)
-    returns-3)
+is-stream-sound-spec = tie.close (tie.spec (λ c κs. search needs) returns (λ c κs. search needs) returns-2)
