@@ -1,13 +1,11 @@
 // Reads records on standard input and prints what the rule paper says of each call: see crates/transcript.
 ghost use mathlib.Core.Path.{_≡_};
 ghost use Prim.Native.Nat.{_+_, _-_, _/_, _%_, _<_, _≤_};
-ghost use lib.Dec.{ltb};
 ghost use lib.ListN.{length};
 ghost use Rattle.ledger.specs.Tally.{oneIf};
 ghost use Rattle.octets.specs.Runs.{part, paste};
-ghost use Rattle.paper.specs.RecordsIn.{recordSize};
-ghost use Rattle.replay.specs.Printed.{replayed, printed};
-ghost use Rattle.replay.specs.Turns.{Fine, Ready};
+ghost use Rattle.replay.specs.Printed.{replayed, printed, isRefused};
+ghost use Rattle.replay.specs.Turns.{waits, isOver, callOn, textOn, afterCall, stopping, turnAfter, tableAfter, outputAfter, Fed, Drained, Fine, Ready};
 
 // A call that was made and printed: where its text ends, and whether it was refused.
 pub struct Printed {
@@ -24,7 +22,7 @@ pub struct Turn {
     pub filled: usize,
     pub calls: u64,
     pub refused: u64,
-    pub goes_on: bool,
+    pub going: bool,
     pub failed: bool,
 }
 
@@ -34,7 +32,7 @@ fn replay_call(table: &mut [u8], bytes: &[u8], out: &mut [u8], at: usize, n: u64
     ensures { λ r. ⌜ now (table .exit) ≡ replayed (now (table .entry)) (now (bytes .entry)) .image ⌝ }
     ensures { λ r. ⌜ now (out .exit) ≡ paste (now (out .entry)) at (printed n (replayed (now (table .entry)) (now (bytes .entry)))) ⌝ }
     ensures { λ r. ⌜ (r .end ≡ at + length (printed n (replayed (now (table .entry)) (now (bytes .entry))))) × (r .end ≤ at + 20000) ⌝ }
-    ensures { λ r. ⌜ r .refused ≡ ltb 0 (replayed (now (table .entry)) (now (bytes .entry)) .number / 65536 % 256) ⌝ }
+    ensures { λ r. ⌜ r .refused ≡ isRefused (replayed (now (table .entry)) (now (bytes .entry))) ⌝ }
 {
     let mut room = [0u8; 128];
     let answer = engine::call(table, bytes, &mut room);
@@ -58,7 +56,7 @@ fn shift(buf: &mut [u8], from: usize, n: usize)
 // More input, where a record may be cut: what is left goes to the front, and one read follows it.
 fn fed(input: &mut [u8], t: Turn) -> Turn
     requires { ⌜ (length (now input) ≡ 65536) × Fine t ⌝ }
-    ensures { λ r. ⌜ Fine r ⌝ }
+    ensures { λ r. ⌜ Fine r × Fed (now (input .entry)) t (now (input .exit)) r ⌝ }
 {
     let start = t.start;
     let left = t.end - start;
@@ -75,7 +73,7 @@ fn fed(input: &mut [u8], t: Turn) -> Turn
         filled: t.filled,
         calls: t.calls,
         refused: t.refused,
-        goes_on: 0 <= got,
+        going: 0 <= got,
         failed: got < 0,
     }
 }
@@ -83,7 +81,7 @@ fn fed(input: &mut [u8], t: Turn) -> Turn
 // Output to be written, where little room is left.
 fn drained(output: &[u8], t: Turn) -> Turn
     requires { ⌜ (length (now output) ≡ 65536) × Fine t ⌝ }
-    ensures { λ r. ⌜ Ready r ⌝ }
+    ensures { λ r. ⌜ Ready r × Drained t r ⌝ }
 {
     let filled = t.filled;
     if filled <= 45000 {
@@ -97,7 +95,7 @@ fn drained(output: &[u8], t: Turn) -> Turn
         filled: 0,
         calls: t.calls,
         refused: t.refused,
-        goes_on: t.goes_on && written,
+        going: t.going && written,
         failed: t.failed || !written,
     }
 }
@@ -105,7 +103,7 @@ fn drained(output: &[u8], t: Turn) -> Turn
 // No more turns.
 fn stopped(t: Turn) -> Turn
     requires { ⌜ Ready t ⌝ }
-    ensures { λ r. ⌜ Fine r ⌝ }
+    ensures { λ r. ⌜ (r ≡ stopping t) × Fine r ⌝ }
 {
     Turn {
         start: t.start,
@@ -114,7 +112,7 @@ fn stopped(t: Turn) -> Turn
         filled: t.filled,
         calls: t.calls,
         refused: t.refused,
-        goes_on: false,
+        going: false,
         failed: t.failed,
     }
 }
@@ -130,26 +128,16 @@ fn counted(n: u64, refused: bool) -> u64
     n
 }
 
-// One call and its text, where a whole record may stand in the input or no more is to come. Reading ends behind the last
-// record, and at one that is cut or of an unknown kind.
+// The call on what is not read yet, and its text behind what is printed already.
 fn called(table: &mut [u8], input: &[u8], output: &mut [u8], t: Turn) -> Turn
-    requires { ⌜ (length (now input) ≡ 65536) × (length (now output) ≡ 65536) × Ready t ⌝ }
-    ensures { λ r. ⌜ Fine r ⌝ }
+    requires { ⌜ (length (now input) ≡ 65536) × (length (now output) ≡ 65536) × Ready t × (t .calls < 18446744073709551615) ⌝ }
+    ensures { λ r. ⌜ (r ≡ afterCall (now (table .entry)) (now (input .entry)) t) × Fine r ⌝ }
+    ensures { λ r. ⌜ now (table .exit) ≡ callOn (now (table .entry)) (now (input .entry)) t .image ⌝ }
+    ensures { λ r. ⌜ now (output .exit) ≡ paste (now (output .entry)) (t .filled) (textOn (now (table .entry)) (now (input .entry)) t) ⌝ }
 {
     let start = t.start;
     let end = t.end;
-    let left = end - start;
-    if left < 99 && !t.ended {
-        return t;
-    }
-    if left == 0 {
-        return stopped(t);
-    }
-    let calls = t.calls;
-    if calls == 0xffffffffffffffff {
-        return stopped(t);
-    }
-    let n = calls + 1;
+    let n = t.calls + 1;
     let bytes = &input[start..end];
     let size = records::record_size(bytes);
     let made = replay_call(table, bytes, output, t.filled, n);
@@ -160,9 +148,48 @@ fn called(table: &mut [u8], input: &[u8], output: &mut [u8], t: Turn) -> Turn
         filled: made.end,
         calls: n,
         refused: counted(t.refused, made.refused),
-        goes_on: 0 < size,
+        going: 0 < size,
         failed: t.failed,
     }
+}
+
+// A record may be cut, and more bytes may come.
+fn waits(t: Turn) -> bool
+    requires { ⌜ Ready t ⌝ }
+    ensures { λ r. ⌜ r ≡ waits t ⌝ }
+{
+    if t.end - t.start < 99 {
+        return !t.ended;
+    }
+    false
+}
+
+// No bytes are left, or no numbers to count calls with.
+fn is_over(t: Turn) -> bool
+    requires { ⌜ Ready t ⌝ }
+    ensures { λ r. ⌜ r ≡ isOver t ⌝ }
+{
+    if t.end - t.start == 0 {
+        return true;
+    }
+    t.calls == 0xffffffffffffffff
+}
+
+// A call is made where a whole record may stand in the input, or no more is to come. Reading ends behind the last record, and
+// at one that is cut or of an unknown kind.
+fn turned(table: &mut [u8], input: &[u8], output: &mut [u8], t: Turn) -> Turn
+    requires { ⌜ (length (now input) ≡ 65536) × (length (now output) ≡ 65536) × Ready t ⌝ }
+    ensures { λ r. ⌜ (r ≡ turnAfter (now (table .entry)) (now (input .entry)) t) × Fine r ⌝ }
+    ensures { λ r. ⌜ now (table .exit) ≡ tableAfter (now (table .entry)) (now (input .entry)) t ⌝ }
+    ensures { λ r. ⌜ now (output .exit) ≡ outputAfter (now (table .entry)) (now (input .entry)) (now (output .entry)) t ⌝ }
+{
+    if waits(t) {
+        return t;
+    }
+    if is_over(t) {
+        return stopped(t);
+    }
+    called(table, input, output, t)
 }
 
 fn one_turn(table: &mut [u8], input: &mut [u8], output: &mut [u8], t: Turn) -> Turn
@@ -170,14 +197,14 @@ fn one_turn(table: &mut [u8], input: &mut [u8], output: &mut [u8], t: Turn) -> T
     ensures { λ r. ⌜ Fine r ⌝ }
 {
     let a = fed(input, t);
-    if !a.goes_on {
+    if !a.going {
         return a;
     }
     let b = drained(output, a);
-    if !b.goes_on {
+    if !b.going {
         return b;
     }
-    called(table, input, output, b)
+    turned(table, input, output, b)
 }
 
 // Turn after turn, until one says to stop.
@@ -188,7 +215,7 @@ fn run(table: &mut [u8], input: &mut [u8], output: &mut [u8], t0: Turn) -> Turn
     let mut t = t0;
     let mut left: u64 = 0xffffffffffffffff;
     while 0 < left {
-        if !t.goes_on {
+        if !t.going {
             return t;
         }
         t = one_turn(table, input, output, t);
@@ -212,7 +239,7 @@ fn main() {
         filled: title,
         calls: 0,
         refused: 0,
-        goes_on: true,
+        going: true,
         failed: false,
     };
     let last = run(&mut table, &mut input, &mut output, first);

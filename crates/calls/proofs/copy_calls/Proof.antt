@@ -1,5 +1,5 @@
 -- `calls::copy_calls` meets its contract: after k turns the first k numbers of the stream stand over dst from the place on.
-use Prim.Native.Nat.{_+_, _≤_, _<_, _-_}
+use Prim.Native.Nat.{_≤_, _<_, _-_}
 use native.Mathlib.Omega.{arith}
 use native.Mathlib.Numerals.{add-one}
 use mathlib.Core.Path.{_≡_, ap, _∙_}

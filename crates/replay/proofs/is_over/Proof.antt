@@ -1,0 +1,14 @@
+-- `replay::is_over` meets its contract.
+use borrow.Author.Tests.{eq-eqb, ne-eqb}
+use borrow.Author.Needs.{needs}
+use Rattle.replay.proofs.is_over.Statement.{statement}
+use Rattle.replay.proofs.is_over.Tie as tie
+
+returns : tie.Need-returns
+returns c = rw (eq-eqb _ 0 (c .if1 .taken))
+
+returns-2 : tie.Need-returns-2
+returns-2 c = rw (ne-eqb _ 0 (c .before .if1 .left))
+
+pub is-over-spec : {M : Type 1} → statement M
+is-over-spec = tie.close (tie.spec (λ c. search needs) returns returns-2)

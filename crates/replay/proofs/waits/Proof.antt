@@ -1,0 +1,14 @@
+-- `replay::waits` meets its contract.
+use borrow.Author.Tests.{lt-ltb, le-ltb}
+use borrow.Author.Needs.{needs}
+use Rattle.replay.proofs.waits.Statement.{statement}
+use Rattle.replay.proofs.waits.Tie as tie
+
+returns : tie.Need-returns
+returns c = rw (lt-ltb _ 99 (c .before .if1 .taken))
+
+returns-2 : tie.Need-returns-2
+returns-2 c = rw (le-ltb _ 99 (c .if1 .left))
+
+pub waits-spec : {M : Type 1} → statement M
+waits-spec = tie.close (tie.spec (λ c. search needs) returns returns-2)
