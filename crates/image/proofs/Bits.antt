@@ -10,6 +10,7 @@ use mathlib.Core.List.{List, [], _∷_}
 use lib.ListN.{length, getD, set}
 use lib.Count.{trailingZeros, under, ones, ones-step}
 use Rattle.ledger.specs.Choice.{pick}
+use Rattle.ledger.proofs.Tallies.{one-most}
 use Rattle.ledger.specs.Tally.{oneIf, sumOf, firstOf}
 use Rattle.paper.specs.Base.{Slot, closed, Table, lowestFree}
 use Rattle.image.specs.Layout.{bit, maskOf}
@@ -46,11 +47,7 @@ abbrev isFree : Slot → ℕ
 isFree x = oneIf (not (x .isOpen))
 
 free-le : (x : Slot) → isFree x ≤ 1
-free-le x = go (not (x .isOpen))
-  where
-    go : (b : Bool) → oneIf b ≤ 1
-    go true = omega arith
-    go false = omega arith
+free-le x = one-most (not (x .isOpen))
 
 mask-low : (x : Slot) (l : List Slot) → maskOf (x ∷ l) % 2 ≡ isFree x
 mask-low x l = omega (arith, free-le x)

@@ -55,13 +55,14 @@ pub length-without-le : (n : ℕ) (l : List ℕ) → length (without n l) ≤ le
 length-without-le n [] = omega arith
 length-without-le n (x ∷ l) = picked (λ (r : List ℕ). length r ≤ suc (length l)) (eqb n x) l (x ∷ without n l) (λ e. omega arith) (λ e. omega (arith, length-without-le n l))
 
+-- a test counts once at most
+pub one-most : (b : Bool) → oneIf b ≤ 1
+one-most true = omega arith
+one-most false = omega arith
+
 pub occ-length : (m : ℕ) (l : List ℕ) → occ m l ≤ length l
 occ-length m [] = omega arith
-occ-length m (x ∷ l) = go (eqb m x) (occ-length m l)
-  where
-    go : (b : Bool) → occ m l ≤ length l → oneIf b + occ m l ≤ suc (length l)
-    go true h = omega arith
-    go false h = omega arith
+occ-length m (x ∷ l) = omega (arith, one-most (eqb m x), occ-length m l)
 
 -- ---- sums and places
 

@@ -1,15 +1,14 @@
--- Laws of turns: a record lies within the bytes that it starts, and a call is refused once at most.
+-- Laws of turns: a record lies within the bytes that it starts; what reading on keeps.
 use Prim.Native.Nat.{ℕ, _+_, _-_, _≤_}
 use native.Mathlib.Omega.{arith}
 use mathlib.Core.Path.{_≡_, _∙_}
-use mathlib.Core.Bool.{Bool, true, false}
+use mathlib.Core.Bool.{false}
 use mathlib.Core.List.{List, _++_}
 use lib.Dec.{eqb}
 use lib.ListN.{length, take, drop}
 use lib.Seq.{take-take, take-at, length-take-le}
 use borrow.Rule.Slice.PartMut.{putMid, postOf}
 use borrow.Author.Tests.{leb-true, eqb-false}
-use Rattle.ledger.specs.Tally.{oneIf}
 use Rattle.ledger.proofs.Tallies.{chosen, either-no}
 use Rattle.octets.specs.Runs.{paste}
 use Rattle.paper.specs.RecordsIn.{recordSize}
@@ -19,10 +18,6 @@ use Rattle.replay.specs.declared.Turn.{Turn}
 pub record-within : (r : List ℕ) → recordSize r ≤ length r
 unfolding recordSize
 record-within r = chosen (λ (n : ℕ). n ≤ length r) _ _ _ (λ e. leb-true _ _ e) (λ e. omega arith)
-
-pub at-most-one : (b : Bool) → oneIf b ≤ 1
-at-most-one true = omega arith
-at-most-one false = omega arith
 
 -- where the calls are not over there is a next number
 pub not-over : (t : Turn) → isOver t ≡ false → t .calls ≡ 18446744073709551615 → ⊥

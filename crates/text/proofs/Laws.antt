@@ -4,12 +4,11 @@ use native.Mathlib.Omega.{arith}
 use native.Mathlib.Numerals.{add-one}
 use mathlib.Core.Path.{_≡_, refl, sym, ap, _∙_}
 use mathlib.Core.List.{List, [], _∷_, _++_, append-assoc, append-nil}
-use mathlib.Core.Bool.{Bool, true, false}
 use lib.Dec.{ltb}
 use lib.ListN.{length, getD, set, take, drop, length-set, length-append, drop-of-length-le, take-append-drop}
 use lib.Seq.{take-suc, drop-cons, drop-set-lt, getD-set-same}
 use borrow.Author.Tests.{lt-ltb, le-ltb}
-use Rattle.ledger.specs.Choice.{pick}
+use Rattle.ledger.proofs.Tallies.{picked}
 use Rattle.octets.specs.Runs.{paste}
 use Rattle.octets.proofs.Laws.{paste-join}
 use Rattle.text.specs.Digits.{digit, digits, decimal, hex}
@@ -60,16 +59,13 @@ digit-first (suc m) n l a b h =
     rw (e, lt-ltb n 10 a) (set-begins l m (48 + n) (omega arith))
 
 -- a number has at most so many digits
-either-most : (b : Bool) (x y : List ℕ) (k : ℕ) → length x ≤ k → length y ≤ k → length (pick b x y) ≤ k
-either-most true x y k f g = f
-either-most false x y k f g = g
-
 digits-most : (k n : ℕ) → length (digits k n) ≤ k
 unfolding digits
 digits-most zero n = omega arith
 digits-most (suc k) n =
-    either-most (ltb n 10) ((48 + n) ∷ []) (digits k (n / 10) ++ ((48 + n % 10) ∷ [])) (suc k) (omega arith)
-    (omega (arith, digits-most k (n / 10), length-append (digits k (n / 10)) ((48 + n % 10) ∷ [])))
+    picked (λ (l : List ℕ). length l ≤ suc k) (ltb n 10) _ _
+    (λ e. omega arith)
+    (λ e. omega (arith, digits-most k (n / 10), length-append (digits k (n / 10)) ((48 + n % 10) ∷ [])))
 
 pub decimal-most : (n : ℕ) → length (decimal n) ≤ 20
 unfolding decimal

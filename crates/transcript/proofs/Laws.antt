@@ -5,7 +5,7 @@ use mathlib.Core.Path.{_≡_, refl, sym, ap, _∙_}
 use mathlib.Core.List.{List, [], _∷_, _++_}
 use lib.ListN.{length, getD, take, drop, length-append, length-drop, length-take, drop-of-length-le}
 use lib.Seq.{drop-cons, drop-drop}
-use Rattle.ledger.proofs.Tallies.{chosen}
+use Rattle.ledger.proofs.Tallies.{chosen, empty}
 use Rattle.octets.specs.Runs.{part}
 use Rattle.text.specs.Digits.{decimal, hex}
 use Rattle.text.proofs.Laws.{decimal-most, hex-length}
@@ -13,23 +13,15 @@ use Rattle.transcript.specs.Transcript.{sizeOut, shownOf, pair, spaced, 
 
 -- ---- how long
 
--- a record out has at least its kind and its stream,
-pub size-least : (k : ℕ) → 2 ≤ sizeOut k
+-- a record out has at least its kind and its stream, and at most what a message has
+pub size-within : (k : ℕ) → (2 ≤ sizeOut k) × (sizeOut k ≤ 99)
 unfolding sizeOut
-size-least k =
-    chosen (λ (n : ℕ). 2 ≤ n) _ _ _ (λ e. omega arith)
-    (λ e. chosen (λ (n : ℕ). 2 ≤ n) _ _ _ (λ e. omega arith)
-    (λ e. chosen (λ (n : ℕ). 2 ≤ n) _ _ _ (λ e. omega arith)
-    (λ e. chosen (λ (n : ℕ). 2 ≤ n) _ _ _ (λ e. omega arith) (λ e. omega arith))))
-
--- and at most what a message has
-pub size-most : (k : ℕ) → sizeOut k ≤ 99
-unfolding sizeOut
-size-most k =
-    chosen (λ (n : ℕ). n ≤ 99) _ _ _ (λ e. omega arith)
-    (λ e. chosen (λ (n : ℕ). n ≤ 99) _ _ _ (λ e. omega arith)
-    (λ e. chosen (λ (n : ℕ). n ≤ 99) _ _ _ (λ e. omega arith)
-    (λ e. chosen (λ (n : ℕ). n ≤ 99) _ _ _ (λ e. omega arith) (λ e. omega arith))))
+size-within k =
+    chosen fits _ _ _ (λ e. omega arith)
+    (λ e. chosen fits _ _ _ (λ e. omega arith) (λ e. chosen fits _ _ _ (λ e. omega arith) (λ e. chosen fits _ _ _ (λ e. omega arith) (λ e. omega arith))))
+  where
+    fits : ℕ → Type 0
+    fits n = (2 ≤ n) × (n ≤ 99)
 
 -- no more is shown than is there
 part-within : (r : List ℕ) (at n : ℕ) → length (part r at n) ≤ length r
@@ -43,8 +35,7 @@ shown-most r =
     (λ e. part-within r 2 (sizeOut (getD r 0 0) - 2))
 
 pub spaced-none : (l : List ℕ) → length l ≡ 0 → spaced l ≡ []
-spaced-none [] h = refl
-spaced-none (x ∷ l) h = absurd (omega (arith, h))
+spaced-none l h = ap spaced (empty l h)
 
 pub spaced-some : (l : List ℕ) → (length l ≡ 0 → ⊥) → spaced l ≡ (32 ∷ []) ++ hex l
 spaced-some [] h = absurd (h refl)
@@ -104,7 +95,7 @@ lines-most (suc k) n (x ∷ rs) h =
     let rest : List ℕ = drop (sizeOut x) l in
     omega (
       arith,
-      size-least x,
+      size-within x,
       length-drop (sizeOut x) l,
       line-most n l h,
       lines-most k n rest (omega (arith, length-drop (sizeOut x) l)),

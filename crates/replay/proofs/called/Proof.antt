@@ -8,8 +8,9 @@ use lib.Dec.{ltb}
 use lib.ListN.{drop, length-take}
 use borrow.Author.Needs.{needs}
 use Rattle.ledger.specs.Tally.{oneIf}
+use Rattle.ledger.proofs.Tallies.{one-most}
 use Rattle.replay.specs.Turns.{unread}
-use Rattle.replay.proofs.Laws.{record-within, at-most-one}
+use Rattle.replay.proofs.Laws.{record-within}
 use Rattle.replay.proofs.called.Statement.{statement}
 use Rattle.replay.proofs.called.Tie as tie
 
@@ -44,7 +45,7 @@ returns c =
           order = omega (arith, size, record-within (unread input t), length-take (t .end - t .start) (drop (t .start) input));
           within = search needs;
           fits = omega (arith, told .1 .1 .0 .1);
-          counted = omega (arith, c .counted .ensures, at-most-one (made .result .refused));
+          counted = omega (arith, c .counted .ensures, one-most (made .result .refused));
         },
       ),
       (told .0, told .1 .0),

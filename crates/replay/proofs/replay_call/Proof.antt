@@ -16,8 +16,8 @@ use Rattle.replay.proofs.replay_call.Tie as tie
 returns : tie.Need-returns
 returns c =
     let a = c .before .before .before .before .before .before .before .before .before .before .before .before .before .before .args in
-    let left = c .before .before .before .before .before .before .before .before .call .ensures in
     let call = c .before .before .before .before .before .before .before .before .call in
+    let left = call .ensures in
     let most = call-most (a .n) (call .result) (call .last .1 .1 .0) (search needs) in
     let text = c .before .before .put-call .ensures in (
       ap (λ (l : Left). l .image) left,

@@ -11,7 +11,7 @@ use Rattle.octets.specs.Runs.{paste}
 use Rattle.octets.proofs.Laws.{paste-join}
 use Rattle.text.proofs.Laws.{paste-nothing}
 use Rattle.transcript.specs.Transcript.{sizeOut, lineOf, linesOf, allLines}
-use Rattle.transcript.proofs.Laws.{size-least, size-most, line-most, lines-end, lines-next}
+use Rattle.transcript.proofs.Laws.{size-within, line-most, lines-end, lines-next}
 use Rattle.transcript.proofs.put_lines.Statement.{statement}
 use Rattle.transcript.proofs.put_lines.Tie as tie
 
@@ -37,7 +37,7 @@ next-of out₀ at n rs out e i (suc k) size e' out' h f a b d s w =
     let all : linesOf (suc k) n (drop i rs) ≡ line ++ rest = rw s (lines-next k n rs i h) in
     record {
       k = k;
-      enough = omega (arith, a, s, size-least (getD rs i 0));
+      enough = omega (arith, a, s, size-within (getD rs i 0));
       end = omega (arith, b, ap length all, length-append line rest, w .0);
       text = d ∙ ap (paste out e) all ∙ paste-join out e line rest f ∙ ap₂ (λ (x : List ℕ) (y : ℕ). paste x y rest) (sym (w .1)) (sym (w .0));
     }
@@ -65,10 +65,10 @@ put-line-requires c κs =
     (omega (arith, length-take (length (now (a .rs)) - l .i) (drop (l .i) (now (a .rs))), length-drop (l .i) (now (a .rs))), omega (arith, l .inv .1, l .inv .2))
 
 add-i : tie.Need-add-i Inv-loop μ-loop
-add-i c = omega (arith, size-most (getD (now (c .before .before .before .before .before .before .before .before .before .before .before .args .rs)) (c .before .before .before .before .before .before .before .before .loop .i) 0), c .size-out .ensures)
+add-i c = omega (arith, size-within (getD (now (c .before .before .before .before .before .before .before .before .before .before .before .args .rs)) (c .before .before .before .before .before .before .before .before .loop .i) 0), c .size-out .ensures)
 
 loop-less : tie.Need-loop-less Inv-loop μ-loop
-loop-less c = omega (arith, size-least (getD (now (c .before .before .before .before .before .before .before .before .before .before .before .args .rs)) (c .before .before .before .before .before .before .before .before .loop .i) 0), c .size-out .ensures)
+loop-less c = omega (arith, size-within (getD (now (c .before .before .before .before .before .before .before .before .before .before .before .args .rs)) (c .before .before .before .before .before .before .before .before .loop .i) 0), c .size-out .ensures)
 
 loop-again : tie.Need-loop-again Inv-loop μ-loop
 loop-again c =
@@ -82,9 +82,9 @@ loop-again c =
     subst (λ (r : List ℕ). (line .result ≡ l .e + length (lineOf (a .n) r)) × (line .last .0 ≡ paste (l .out) (l .e) (lineOf (a .n) r))) whole (line .ensures) in
     let w = l .inv .3 in
     let size = c .size-out .ensures in
-    let least = size-least (getD rs (l .i) 0) in (
-      omega (arith, size, size-most (getD rs (l .i) 0)),
-      omega (arith, size, least, wrote .0, line-most (a .n) (drop (l .i) rs) (omega (arith, length-drop (l .i) rs)), l .inv .1),
+    let fits = size-within (getD rs (l .i) 0) in (
+      omega (arith, size, fits),
+      omega (arith, size, fits, wrote .0, line-most (a .n) (drop (l .i) rs) (omega (arith, length-drop (l .i) rs)), l .inv .1),
       search needs,
       next-of (now (a .out)) (a .at) (a .n) rs (l .out) (l .e) (l .i) (w .k) (c .size-out .result) (line .result) (line .last .0)
           (search needs) (omega (arith, l .inv .1, l .inv .2)) (w .enough) (w .end) (w .text) size wrote,

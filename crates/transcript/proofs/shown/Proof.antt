@@ -3,7 +3,7 @@ use native.Mathlib.Omega.{arith}
 use borrow.Author.Needs.{needs}
 use Rattle.ledger.specs.Choice.{_⇒_∣_}
 use Rattle.transcript.specs.Transcript.{shownOf}
-use Rattle.transcript.proofs.Laws.{size-least, size-most}
+use Rattle.transcript.proofs.Laws.{size-within}
 use Rattle.transcript.proofs.shown.Statement.{statement}
 use Rattle.transcript.proofs.shown.Tie as tie
 
@@ -14,10 +14,10 @@ returns c =
     rw (← m .before .byte-at .ensures, ← m .is-message .ensures, c .before .before .if1 .taken, ← c .before .byte-at2 .ensures) (c .part-at .ensures)
 
 sub-part-at : tie.Need-sub-part-at
-sub-part-at c = omega (arith, c .size-out .ensures, size-least (c .before .before .before .byte-at .result))
+sub-part-at c = omega (arith, c .size-out .ensures, size-within (c .before .before .before .byte-at .result))
 
 part-at-requires-2 : tie.Need-part-at-requires-2
-part-at-requires-2 c κs = omega (arith, c .size-out .ensures, size-most (c .before .before .before .byte-at .result))
+part-at-requires-2 c κs = omega (arith, c .size-out .ensures, size-within (c .before .before .before .byte-at .result))
 
 returns-2 : tie.Need-returns-2
 unfolding shownOf _⇒_∣_
