@@ -1,0 +1,84 @@
+-- What one call says of connection indications: read from the bytes lent, the stream opened and the bytes written.
+use Prim.Native.Nat.{ℕ, zero, suc}
+use mathlib.Core.List.{List, [], _∷_, _++_}
+use lib.ListN.{length, getD, drop}
+use lib.Dec.{eqb}
+use Rattle.ledger.specs.Choice.{_⇒_∣_}
+use Rattle.octets.specs.Numbers.{be32At}
+use Rattle.paper.specs.RecordsIn.{inputOf}
+use Rattle.paper.specs.declared.Input.{Input}
+use Rattle.paper.specs.declared.Input.the-variants as input
+use Rattle.transcript.specs.Transcript.{isMessage, sizeOut}
+use Rattle.book.specs.declared.End.{End}
+use Rattle.book.specs.declared.End.the-variants.{Accepted, Denied, Withdrawn, Dropped}
+use Rattle.book.specs.declared.Line.{Line}
+use Rattle.book.specs.declared.Line.the-variants.{Began, Came, Went, Given, Nothing}
+
+-- ---- the record lent
+
+-- The stream that a message came from. An order a names the stream that carries the call; the indication is this one's.
+abbrev pub asker : Input → ℕ
+asker input.Unreadable = 0
+asker input.Padded = 0
+asker (input.AddPpa p) = 0
+asker input.Open = 0
+asker (input.Close i) = i
+asker (input.Message i l) = i
+asker (input.CallArrives p sap) = 0
+asker (input.PeerAccepted i) = i
+asker (input.PeerGone i reason) = i
+asker (input.CallWithdrawn i n reason) = i
+asker (input.PeerReset i reason) = i
+asker (input.ResetConfirmed i) = i
+
+-- What an order d with a number means: dropped for a close, denied else.
+abbrev pub parting : Input → End
+parting input.Unreadable = Denied
+parting input.Padded = Denied
+parting (input.AddPpa p) = Denied
+parting input.Open = Denied
+parting (input.Close i) = Dropped
+parting (input.Message i l) = Denied
+parting (input.CallArrives p sap) = Denied
+parting (input.PeerAccepted i) = Denied
+parting (input.PeerGone i reason) = Denied
+parting (input.CallWithdrawn i n reason) = Denied
+parting (input.PeerReset i reason) = Denied
+parting (input.ResetConfirmed i) = Denied
+
+-- ---- a record written, at the start of some bytes
+
+-- a d or a DISCONNECT_IND with number 0 is about a connection, not about an indication
+unfoldable pub endLine : ℕ → ℕ → End → Line
+endLine i n e = eqb n 0 ⇒ Nothing ∣ Went i n e
+
+-- of the messages up: BIND_ACK, CONNECT_IND, DISCONNECT_IND
+unfoldable pub upLine : List ℕ → Line
+upLine b =
+    eqb (be32At b 3) 0x04 ⇒ Given (getD b 1 0) (be32At b 19)
+    ∣ eqb (be32At b 3) 0x0e ⇒ Came (getD b 1 0) (be32At b 7)
+    ∣ eqb (be32At b 3) 0x14 ⇒ endLine (getD b 1 0) (be32At b 15) Withdrawn
+    ∣ Nothing
+
+unfoldable pub lineAt : Input → List ℕ → Line
+lineAt q b =
+    eqb (getD b 0 0) 97 ⇒ Went (asker q) (be32At b 2) Accepted  -- a
+    ∣ eqb (getD b 0 0) 100 ⇒ endLine (getD b 1 0) (be32At b 2) (parting q)  -- d
+    ∣ isMessage (getD b 0 0) ⇒ upLine b
+    ∣ Nothing
+
+-- the records written, one behind the other, at most so many
+unfoldable pub linesIn : ℕ → Input → List ℕ → List Line
+linesIn zero q b = []
+linesIn (suc k) q [] = []
+linesIn (suc k) q (x ∷ b) = lineAt q (x ∷ b) ∷ linesIn k q (drop (sizeOut x) (x ∷ b))
+
+-- ---- a call
+
+-- a token is its stream's number plus 1, and 0 where none was opened
+abbrev pub openingLines : ℕ → List Line
+openingLines zero = []
+openingLines (suc i) = Began i ∷ []
+
+abbrev pub linesOf : List ℕ → ℕ → List ℕ → List Line
+linesOf lent opened written = openingLines opened ++ linesIn (length written) (inputOf lent) written

@@ -1,0 +1,1 @@
+// The text of fates: see specs/.
