@@ -49,6 +49,10 @@ openings s (Went i n e) k = k
 openings s (Given i g) k = k
 openings s Nothing k = k
 
+abbrev pub openingsIn : ℕ → List Line → ℕ → ℕ
+openingsIn s [] k = k
+openingsIn s (y ∷ ys) k = openingsIn s ys (openings s y k)
+
 abbrev pub rooted : ℕ → Line → ℕ → Bool
 rooted s (Began i) k = true
 rooted s (Came i n) k = pick (eqb s i) (ltb 0 k) true
@@ -146,35 +150,41 @@ pub record Silent (ys : List Line) : Type 0 where
   pub same : (s : ℕ) (w : List ℕ) → shades s ys w ≡ w
   pub fairly : (s : ℕ) (w : List ℕ) → fairs s ys w ≡ true
   pub grant : (s g : ℕ) → grantBy s ys g ≡ g
+  pub rootedly : (s k : ℕ) → rooteds s ys k ≡ true
+  pub opens : (s k : ℕ) → openingsIn s ys k ≡ k
 
 pub silence : (ys : List Line) → silent ys ≡ true → Silent ys
-silence [] h = record { same = λ s w. refl; fairly = λ s w. refl; grant = λ s g. refl }
+silence [] h = record { same = λ s w. refl; fairly = λ s w. refl; grant = λ s g. refl; rootedly = λ s k. refl; opens = λ s k. refl }
 silence (Began i ∷ ys) h = absurd (let z : _≡_ {A = ℕ} 0 1 = cc in omega arith)
 silence (Came i n ∷ ys) h = absurd (let z : _≡_ {A = ℕ} 0 1 = cc in omega arith)
 silence (Went i n f ∷ ys) h = absurd (let z : _≡_ {A = ℕ} 0 1 = cc in omega arith)
 silence (Given i n ∷ ys) h = absurd (let z : _≡_ {A = ℕ} 0 1 = cc in omega arith)
-silence (Nothing ∷ ys) h = let r : Silent ys = silence ys h in record { same = r .same; fairly = r .fairly; grant = r .grant }
+silence (Nothing ∷ ys) h = let r : Silent ys = silence ys h in record { same = r .same; fairly = r .fairly; grant = r .grant; rootedly = r .rootedly; opens = r .opens }
 
 -- ---- lines that take all numbers off stream i, oldest first
 pub record Taken (s i : ℕ) (ys : List Line) (w v : List ℕ) : Type 0 where
   pub left : shades s ys w ≡ v
   pub fairly : fairs s ys w ≡ true
+  pub rootedly : (k : ℕ) → rooteds s ys k ≡ true
+  pub opens : (k : ℕ) → openingsIn s ys k ≡ k
 
 taken-more : (s i n : ℕ) (f : End) (y : Line) (ys : List Line) (w u v : List ℕ) → y ≡ Went i n f → pick (eqb s i) (without n w) w ≡ u → pick (eqb s i) (has n w) true ≡ true → Taken s i ys u v → Taken s i (y ∷ ys) w v
 taken-more s i n f y ys w u v d e h r = record {
   left = ap (λ (y : Line). shades s ys (shade s y w)) d ∙ ap (shades s ys) e ∙ r .left;
   fairly = to-both _ _ (ap (λ (y : Line). fair s y w) d ∙ h) (ap (λ (y : Line). fairs s ys (shade s y w)) d ∙ ap (fairs s ys) e ∙ r .fairly);
+  rootedly = λ k. to-both _ _ (ap (λ (y : Line). rooted s y k) d) (ap (λ (y : Line). rooteds s ys (openings s y k)) d ∙ r .rootedly k);
+  opens = λ k. ap (λ (y : Line). openingsIn s ys (openings s y k)) d ∙ r .opens k;
 }
 
 module _ (i : ℕ) (f : End) (g : ℕ → Line) (d : (n : ℕ) → 0 < n → g n ≡ Went i n f) where
   pub emptied : (s : ℕ) → eqb s i ≡ true → (l : List ℕ) → occ 0 l ≡ 0 → Taken s i (map g l) l []
-  emptied s e [] z = record { left = refl; fairly = refl }
+  emptied s e [] z = record { left = refl; fairly = refl; rootedly = λ k. refl; opens = λ k. refl }
   emptied s e (n ∷ l) z =
       let m : eqb n n ≡ true = eq-eqb n n refl in
       taken-more s i n f (g n) (map g l) (n ∷ l) l [] (d n (nonzero n (omega arith))) (rw (e, m)) (rw e (lt-ltb 0 (occ n (n ∷ l)) (rw m (omega arith)))) (emptied s e l (omega arith))
 
   pub untouched : (s : ℕ) → eqb s i ≡ false → (l w : List ℕ) → occ 0 l ≡ 0 → Taken s i (map g l) w w
-  untouched s e [] w z = record { left = refl; fairly = refl }
+  untouched s e [] w z = record { left = refl; fairly = refl; rootedly = λ k. refl; opens = λ k. refl }
   untouched s e (n ∷ l) w z = taken-more s i n f (g n) (map g l) w w w (d n (nonzero n (omega arith))) (rw e) (rw e) (untouched s e l w (omega arith))
 
   pub ungranted : (s a : ℕ) (l : List ℕ) → occ 0 l ≡ 0 → grantBy s (map g l) a ≡ a
@@ -195,3 +205,15 @@ tallies-append k s (x ∷ xs) ys ts = tallies-append k s xs ys (tallyLine k s x 
 pub grant-append : (s : ℕ) (xs ys : List Line) (g : ℕ) → grantBy s (xs ++ ys) g ≡ grantBy s ys (grantBy s xs g)
 grant-append s [] ys g = refl
 grant-append s (x ∷ xs) ys g = grant-append s xs ys (grantLine s x g)
+
+pub fairs-append : (s : ℕ) (xs ys : List Line) (w : List ℕ) → fairs s xs w ≡ true → fairs s ys (shades s xs w) ≡ true → fairs s (xs ++ ys) w ≡ true
+fairs-append s [] ys w h g = g
+fairs-append s (x ∷ xs) ys w h g =
+    let h′ : (fair s x w ≡ true) × (fairs s xs (shade s x w) ≡ true) = both-of _ _ h in
+    to-both _ _ (h′ .0) (fairs-append s xs ys (shade s x w) (h′ .1) g)
+
+pub rooteds-append : (s : ℕ) (xs ys : List Line) (k : ℕ) → rooteds s xs k ≡ true → rooteds s ys (openingsIn s xs k) ≡ true → rooteds s (xs ++ ys) k ≡ true
+rooteds-append s [] ys k h g = g
+rooteds-append s (x ∷ xs) ys k h g =
+    let h′ : (rooted s x k ≡ true) × (rooteds s xs (openings s x k) ≡ true) = both-of _ _ h in
+    to-both _ _ (h′ .0) (rooteds-append s xs ys (openings s x k) (h′ .1) g)

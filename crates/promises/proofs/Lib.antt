@@ -2,3 +2,10 @@
 pub mod ErrorAck
 pub mod OutState
 pub mod NextNumber
+pub mod Changes
+pub mod Leaves
+pub mod Tested
+pub mod Lent
+pub mod Room
+pub mod Said
+pub mod Sights

@@ -1,0 +1,92 @@
+-- Histories: calls in any sequence, refused ones included, and what came back. From a history alone, never from a table: the
+-- fates of the connection indications, their counts, those still open, the count granted.
+use Prim.Native.Nat.{ℕ}
+use mathlib.Core.Path.{_≡_}
+use mathlib.Core.Bool.{true}
+use mathlib.Core.List.{List, [], _∷_, _++_}
+use lib.ListN.{getD}
+use lib.Dec.{ltb}
+use Rattle.ledger.specs.Tally.{allOf}
+use Rattle.paper.specs.Base.{Table}
+use Rattle.paper.specs.RecordsOut.{allBytes}
+use Rattle.paper.specs.Refusals.{Outcome}
+use Rattle.paper.specs.Step.{step}
+use Rattle.book.specs.declared.Line.{Line}
+use Rattle.book.specs.Lines.{linesOf}
+use Rattle.book.specs.Book.{Opening, openOf, openCount, newest, posts, tallies, grantBy}
+
+-- ---- calls, and what they come to
+
+-- a call: the bytes lent and the room's length
+pub record Call : Type 0 where
+  pub bytes : List ℕ
+  pub areBytes : allOf (λ (b : ℕ). ltb b 256) bytes ≡ true
+  pub room : ℕ
+
+-- what came back: the refusal number, or the stream's token where one was opened and the bytes of the records written
+pub record Answered : Type 0 where
+  pub lent : List ℕ
+  pub room : ℕ
+  pub refusal : ℕ
+  pub opened : ℕ
+  pub written : List ℕ
+
+abbrev pub answeredBy : Call → Outcome → Answered
+answeredBy c o = record { lent = c .bytes; room = c .room; refusal = o .refusal; opened = o .opened; written = allBytes (o .records) }
+
+-- the table after calls, from table t on
+unfoldable pub run : Table → List Call → Table
+run t [] = t
+run t (c ∷ cs) = run (step t (c .bytes) (c .room) .table) cs
+
+-- the history of calls, from table t on
+unfoldable pub history : Table → List Call → List Answered
+history t [] = []
+history t (c ∷ cs) = answeredBy c (step t (c .bytes) (c .room)) ∷ history (step t (c .bytes) (c .room) .table) cs
+
+-- ---- what a history says
+
+unfoldable pub lines : List Answered → List Line
+lines [] = []
+lines (a ∷ h) = linesOf (a .lent) (a .opened) (a .written) ++ lines h
+
+-- of stream s: its openings, the newest first, each with its indications, the oldest first, and the fate of each
+abbrev pub fates : ℕ → List Answered → List Opening
+fates s h = posts s (lines h) []
+
+-- the numbers of those still open in its newest opening, the oldest first
+abbrev pub openBy : ℕ → List Answered → List ℕ
+openBy s h = openOf (newest (fates s h))
+
+-- the count granted at its last bind
+abbrev pub grantedBy : ℕ → List Answered → ℕ
+grantedBy s h = grantBy s (lines h) 0
+
+-- ---- counts of opening j of stream s, the newest 0: each by its own rule from the records
+
+abbrev pub counted : ℕ → ℕ → ℕ → List Answered → ℕ
+counted k s j h = getD (tallies k s (lines h) []) j 0
+
+-- CONNECT_INDs written to it
+abbrev pub indicated : ℕ → ℕ → List Answered → ℕ
+indicated = counted 0
+
+-- orders a for its messages
+abbrev pub accepted : ℕ → ℕ → List Answered → ℕ
+accepted = counted 1
+
+-- orders d with a number, for its messages
+abbrev pub denied : ℕ → ℕ → List Answered → ℕ
+denied = counted 2
+
+-- DISCONNECT_INDs with a number
+abbrev pub withdrawn : ℕ → ℕ → List Answered → ℕ
+withdrawn = counted 3
+
+-- orders d with a number, for its close
+abbrev pub dropped : ℕ → ℕ → List Answered → ℕ
+dropped = counted 4
+
+-- indications that none of these ended
+abbrev pub leftOpenIn : ℕ → ℕ → List Answered → ℕ
+leftOpenIn s j h = openCount (getD (fates s h) j [])
