@@ -9,3 +9,4 @@ pub mod Lent
 pub mod Room
 pub mod Said
 pub mod Sights
+pub mod Steps
