@@ -10,3 +10,5 @@ pub mod Room
 pub mod Said
 pub mod Sights
 pub mod Steps
+pub mod ReadBack
+pub mod Agreement
