@@ -73,16 +73,16 @@ count-posts k s (y ∷ ys) b h =
 
 -- ---- each opening, the newest first
 pub sums : (b : List Opening) (j : ℕ)
-    → getD (map (countIn 0) b) j 0 ≡ getD (map (countIn 1) b) j 0 + getD (map (countIn 2) b) j 0 + getD (map (countIn 3) b) j 0 + getD (map (countIn 4) b) j 0 + getD (map openCount b) j 0
+    → getD (map (countIn 0) b) j 0 ≡ getD (map (countIn 1) b) j 0 + getD (map (countIn 2) b) j 0 + getD (map (countIn 3) b) j 0 + getD (map (countIn 4) b) j 0 + openCount (getD b j [])
 sums [] j = refl
 sums (o ∷ b) zero = balance o
 sums (o ∷ b) (suc j) = sums b j
 
-none-open : (b : List Opening) → sumOf openCount b ≡ 0 → (j : ℕ) → getD (map openCount b) j 0 ≡ 0
+none-open : (b : List Opening) → sumOf openCount b ≡ 0 → (j : ℕ) → openCount (getD b j []) ≡ 0
 none-open [] z j = refl
 none-open (o ∷ b) z zero = omega arith
 none-open (o ∷ b) z (suc j) = none-open b (omega arith) j
 
-pub none-left : (b : List Opening) → leftOpen b ≡ 0 → (j : ℕ) → getD (map openCount b) (suc j) 0 ≡ 0
+pub none-left : (b : List Opening) → leftOpen b ≡ 0 → (j : ℕ) → openCount (getD b (suc j) []) ≡ 0
 none-left [] z j = refl
 none-left (o ∷ b) z j = none-open b z j

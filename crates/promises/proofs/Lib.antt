@@ -12,3 +12,5 @@ pub mod Sights
 pub mod Steps
 pub mod ReadBack
 pub mod Agreement
+pub mod Named
+pub mod Demand3
