@@ -14,3 +14,4 @@ pub mod ReadBack
 pub mod Agreement
 pub mod Named
 pub mod Demand3
+pub mod Images

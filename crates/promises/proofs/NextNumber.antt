@@ -11,7 +11,7 @@ use Rattle.image.proofs.TidyImage.{Tidy, tidy-parts, shaped-table}
 use Rattle.calls.proofs.Next.{next-free}
 
 -- the counter has four bytes
-counter-small : (img : List ℕ) → tidy img ≡ true → tableOf img .counter < 2 ^ 32
+pub counter-small : (img : List ℕ) → tidy img ≡ true → tableOf img .counter < 2 ^ 32
 unfolding tableOf
 counter-small img h =
     let b : Tidy img = tidy-parts img h in

@@ -183,10 +183,10 @@ take-bytes (suc n) [] b j = b j
 take-bytes (suc n) (x ∷ r) b zero = b zero
 take-bytes (suc n) (x ∷ r) b (suc j) = take-bytes n r (λ j. b (suc j)) j
 
-part-bytes : (r : List ℕ) (a n : ℕ) → Bytes r → Bytes (part r a n)
+pub part-bytes : (r : List ℕ) (a n : ℕ) → Bytes r → Bytes (part r a n)
 part-bytes r a n b = take-bytes n (drop a r) (drop-bytes a r b)
 
-no-bytes : (n : ℕ) → Bytes (replicate n 0)
+pub no-bytes : (n : ℕ) → Bytes (replicate n 0)
 no-bytes zero j = omega arith
 no-bytes (suc n) zero = omega arith
 no-bytes (suc n) (suc j) = no-bytes n j
