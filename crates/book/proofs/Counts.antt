@@ -13,7 +13,7 @@ use Rattle.book.specs.declared.End.{End}
 use Rattle.book.specs.declared.End.the-variants.{Accepted, Denied, Withdrawn, Dropped}
 use Rattle.book.specs.declared.Line.{Line}
 use Rattle.book.specs.declared.Line.the-variants.{Began, Came, Went, Given, Nothing}
-use Rattle.book.specs.Book.{Fate, stillOpen, met, Indication, Opening, isStillOpen, countOf, openOf, mark, noted, newest, onNewest, post, posts, bump, tallyLine, tallies, counted, countIn, openCount, leftOpen}
+use Rattle.book.specs.Book.{Fate, stillOpen, met, Opening, isStillOpen, countOf, openOf, mark, noted, newest, onNewest, post, posts, bump, tallyLine, tallies, counted, countIn, openCount, leftOpen}
 use Rattle.ledger.proofs.Tallies.{both-of}
 use Rattle.book.proofs.Sums.{pick-to}
 use Rattle.book.proofs.Shades.{shade, fair, fairs, open-post}

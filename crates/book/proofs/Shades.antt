@@ -13,7 +13,7 @@ use Rattle.ledger.proofs.Tallies.{both-of, to-both, picked}
 use Rattle.book.specs.declared.End.{End}
 use Rattle.book.specs.declared.Line.{Line}
 use Rattle.book.specs.declared.Line.the-variants.{Began, Came, Went, Given, Nothing}
-use Rattle.book.specs.Book.{grantLine, grantBy, Fate, stillOpen, met, Indication, Opening, isStillOpen, openOf, mark, noted, newest, onNewest, post, posts, leftOpen, tallies, tallyLine}
+use Rattle.book.specs.Book.{grantLine, grantBy, Fate, stillOpen, met, Opening, isStillOpen, openOf, mark, noted, newest, onNewest, post, posts, leftOpen, tallies, tallyLine}
 use Rattle.book.proofs.Sums.{pick-to}
 
 -- the open numbers of stream s after a line

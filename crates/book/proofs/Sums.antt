@@ -1,6 +1,6 @@
 -- More laws of tests, counts and sums, over any list.
-use Prim.Native.Nat.{ℕ, zero, suc, _+_, _*_, _≤_, _<_}
-use mathlib.Core.Path.{_≡_, refl, sym, ap, _∙_}
+use Prim.Native.Nat.{ℕ, zero, suc, _+_, _≤_, _<_}
+use mathlib.Core.Path.{_≡_, refl, ap, _∙_}
 use mathlib.Core.Bool.{Bool, true, false}
 use mathlib.Core.List.{List, [], _∷_, _++_}
 use lib.ListN.{length, getD, set}
@@ -35,10 +35,6 @@ occ-append m (x ∷ l) k = omega (arith, occ-append m l k)
 pub occ-without : (m n : ℕ) (l : List ℕ) → occ m (without n l) ≤ occ m l
 occ-without m n [] = omega arith
 occ-without m n (x ∷ l) = picked (λ (r : List ℕ). occ m r ≤ oneIf (eqb m x) + occ m l) (eqb n x) l (x ∷ without n l) (λ e. omega arith) (λ e. omega (arith, occ-without m n l))
-
--- one number: counted once at itself, not elsewhere
-pub occ-one : (m c : ℕ) → occ m (c ∷ []) ≡ oneIf (eqb m c)
-occ-one m c = omega arith
 
 -- ---- sums over a list with one element replaced
 module _ {A : Type 0} (f : A → ℕ) (d : A) where

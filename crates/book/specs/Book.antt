@@ -1,6 +1,6 @@
 -- The fates: of each opening of a stream its connection indications, each with exactly one fate, as the lines of a history
 -- tell them; and the counts that the lines give by themselves.
-use Prim.Native.Nat.{ℕ, zero, suc, _+_}
+use Prim.Native.Nat.{ℕ, _+_}
 use mathlib.Core.Bool.{Bool, true, false}
 use mathlib.Core.List.{List, [], _∷_, _++_}
 use lib.ListN.{length}

@@ -1,16 +1,13 @@
 -- What a history says of a stream is what the table holds of it, call by call from a fresh table.
 use Prim.Native.Nat.{ℕ, _≤_, _<_}
 use mathlib.Core.Path.{_≡_, refl, sym, ap, subst, _∙_}
-use mathlib.Core.Bool.{true, false, false≢true}
-use mathlib.Core.List.{List, [], _∷_, _++_, map}
-use lib.ListN.{getD}
+use mathlib.Core.Bool.{true, false≢true}
+use mathlib.Core.List.{List, [], _∷_, map}
 use lib.Dec.{ltb}
 use native.Mathlib.Omega.{arith}
 use borrow.Author.Tests.{ltb-true}
 use Rattle.ledger.proofs.Tallies.{all-at}
-use Rattle.paper.specs.Base.{number, Slot, closed, Table, fresh, slot, stream, waiting}
-use Rattle.paper.specs.RecordsIn.{inputOf}
-use Rattle.paper.specs.Refusals.{Outcome}
+use Rattle.paper.specs.Base.{number, Slot, Table, fresh, slot, stream, waiting}
 use Rattle.paper.specs.Step.{step}
 use Rattle.book.specs.declared.Line.{Line}
 use Rattle.book.specs.Lines.{linesOf}
@@ -18,9 +15,8 @@ use Rattle.book.specs.Book.{Opening, openOf, newest, posts, leftOpen, tallies, 
 use Rattle.book.proofs.Shades.{shades, fairs, rooteds, openingsIn, open-posts, left-posts, posts-append, tallies-append, grant-append, fairs-append, rooteds-append}
 use Rattle.book.proofs.Counts.{count-posts}
 use Rattle.promises.specs.Soundness.{Bytes, Sound}
-use Rattle.promises.specs.History.{Call, Answered, answeredBy, run, history, lines, fates, grantedBy}
+use Rattle.promises.specs.History.{Call, answeredBy, run, history, lines, fates, grantedBy}
 use Rattle.promises.proofs.ReadBack.{read-step}
-use Rattle.promises.proofs.Said.{said}
 use Rattle.promises.proofs.Sights.{Seen}
 use Rattle.promises.proofs.Steps.{good, fresh-sound, fresh-at}
 
@@ -88,9 +84,10 @@ fair-run s (c ∷ cs) t z k f =
     let u : Table = step t (c .bytes) (c .room) .table in
     let n : Seen s t (linesFrom t c) u = seen t z c s in
     let r : (fairs s (lines (history u cs)) (waiting u s) ≡ true) × (rooteds s (lines (history u cs)) (openingsIn s (linesFrom t c) k) ≡ true)
-    = fair-run s cs u (kept t z c) (openingsIn s (linesFrom t c) k) (n .opens k f) in
-    (fairs-append s (linesFrom t c) (lines (history u cs)) (waiting t s) (n .fairly) (ap (fairs s (lines (history u cs))) (sym (n .shaded)) ∙ r .0),
-      rooteds-append s (linesFrom t c) (lines (history u cs)) k (n .rootedly k f) (r .1))
+    = fair-run s cs u (kept t z c) (openingsIn s (linesFrom t c) k) (n .opens k f) in (
+      fairs-append s (linesFrom t c) (lines (history u cs)) (waiting t s) (n .fairly) (ap (fairs s (lines (history u cs))) (sym (n .shaded)) ∙ r .0),
+      rooteds-append s (linesFrom t c) (lines (history u cs)) k (n .rootedly k f) (r .1),
+    )
 
 pub fair-history : (s : ℕ) (cs : List Call) → (fairs s (lines (history fresh cs)) [] ≡ true) × (rooteds s (lines (history fresh cs)) 0 ≡ true)
 fair-history s cs =

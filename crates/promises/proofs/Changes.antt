@@ -6,11 +6,11 @@ use mathlib.Core.List.{List, [], _∷_}
 use lib.ListN.{length}
 use lib.Dec.{eqb, ltb, leb}
 use native.Mathlib.Omega.{arith}
-use borrow.Author.Tests.{eqb-true, eqb-false, ltb-true, ltb-false, lt-ltb, le-ltb, leb-true, le-leb}
+use borrow.Author.Tests.{eqb-true, ltb-true, ltb-false, lt-ltb, le-ltb, leb-true, le-leb}
 use Rattle.ledger.specs.Choice.{pick, both, either}
 use Rattle.ledger.specs.Tally.{occ, has}
-use Rattle.ledger.proofs.Tallies.{both-of, occ-length, picked}
-use Rattle.paper.specs.Base.{numberOf, number, isIn, noStream, inState, Slot, closed, justOpened}
+use Rattle.ledger.proofs.Tallies.{occ-length, picked}
+use Rattle.paper.specs.Base.{numberOf, number, isIn, noStream, inState, Slot, closed}
 use Rattle.paper.specs.Saps.{isSap, isType, grantOf, asBindAllows}
 use Rattle.paper.specs.Rows.{attachedTo, boundTo, standing}
 use Rattle.paper.specs.declared.State.{State}
@@ -116,4 +116,3 @@ module _ (ps : List ℕ) where
   pub ok-moved : (x : Slot) (q : State) → Ok ps x → 6 ≤ number (x .stream) → x .stream .mode ≡ 1 → isIn 9 (x .stream) ≡ false → 6 ≤ numberOf q → eqb (numberOf q) 9 ≡ false
       → Ok ps (record { isOpen = x .isOpen; stream = inState q (x .stream); waiting = x .waiting })
   ok-moved x q o h m n g e = ok-seated x q (x .waiting) o h m g (e ∙ sym (le-ltb 0 (length (x .waiting)) (omega (arith, quiet x o n)))) (o .few)
-

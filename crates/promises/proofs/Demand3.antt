@@ -3,14 +3,13 @@
 use Prim.Native.Nat.{ℕ, suc, _+_, _≤_}
 use mathlib.Core.Path.{_≡_, refl, sym, ap, _∙_}
 use mathlib.Core.Bool.{Bool, true, false, not}
-use mathlib.Core.List.{List, [], _∷_, map}
-use lib.ListN.{length, getD}
-use lib.Dec.{eqb, ltb}
+use mathlib.Core.List.{List, [], map}
+use lib.ListN.{length}
 use native.Mathlib.Omega.{arith}
 use borrow.Author.Tests.{eqb-true, ltb-true}
 use Rattle.ledger.specs.Tally.{occ, has}
 use Rattle.ledger.proofs.Tallies.{empty}
-use Rattle.paper.specs.Base.{number, isIn, Slot, closed, Table, fresh, slot, stream, waiting, ppaNumbers}
+use Rattle.paper.specs.Base.{number, isIn, Slot, closed, fresh, slot, stream, waiting, ppaNumbers}
 use Rattle.paper.specs.Correlations.{occurrences}
 use Rattle.paper.specs.ErrorCodes.{badCorr}
 use Rattle.paper.specs.ErrorOrder.{judge}
@@ -26,8 +25,8 @@ use Rattle.book.specs.Book.{tallies, countIn}
 use Rattle.book.proofs.Counts.{sums, none-left}
 use Rattle.book.proofs.Sums.{sum-at, sum-two}
 use Rattle.promises.specs.Answers.{errorsIn, gets, Complete}
-use Rattle.promises.specs.History.{Call, Answered, run, history, lines, fates, openBy, grantedBy, indicated, accepted, denied, withdrawn, dropped, leftOpenIn}
-use Rattle.promises.proofs.Agreement.{Agrees, agrees, are-bytes}
+use Rattle.promises.specs.History.{Call, run, history, lines, fates, openBy, grantedBy, indicated, accepted, denied, withdrawn, dropped, leftOpenIn}
+use Rattle.promises.proofs.Agreement.{agrees, are-bytes}
 use Rattle.promises.proofs.Changes.{quiet}
 use Rattle.promises.proofs.Named.{names-accept, names-denial}
 use Rattle.promises.proofs.OutState.{answers, answer-tells}

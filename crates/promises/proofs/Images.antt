@@ -1,34 +1,31 @@
 -- Sound tables as images: the image of one is sound, a sound image holds one, and every call keeps a sound image sound.
 use Prim.Native.Nat.{ℕ, zero, suc, _+_, _*_, _-_, _^_, _≤_, _<_}
-use mathlib.Core.Path.{_≡_, refl, sym, ap, subst, _∙_}
-use mathlib.Core.Bool.{Bool, true, false, not, false≢true}
+use mathlib.Core.Path.{_≡_, refl, sym, ap, _∙_}
+use mathlib.Core.Bool.{true}
 use mathlib.Core.List.{List, [], _∷_, _++_, map, append-assoc, append-nil}
 use lib.ListN.{length, getD, take, drop, replicate}
-use lib.Dec.{eqb, ltb, leb}
+use lib.Dec.{leb}
 use native.Mathlib.Omega.{arith}
-use borrow.Author.Tests.{eq-eqb, ne-eqb, le-leb, not-true, not-false}
-use Rattle.ledger.specs.Choice.{both}
-use Rattle.ledger.specs.Tally.{oneIf, occ, sumOf, allOf}
-use Rattle.ledger.proofs.Tallies.{both-of, to-both, at-all, chosen, sum-most, one-most}
-use Rattle.octets.specs.Numbers.{be32At, be16, be32}
+use borrow.Author.Tests.{eq-eqb, ne-eqb, le-leb}
+use Rattle.ledger.specs.Tally.{occ, sumOf, allOf}
+use Rattle.ledger.proofs.Tallies.{both-of, to-both, at-all, chosen, one-most}
+use Rattle.octets.specs.Numbers.{be32At}
 use Rattle.octets.specs.Runs.{part, allZero}
 use Rattle.octets.specs.Blocks.{flat}
 use Rattle.octets.proofs.Laws.{flat-length}
 use Rattle.paper.specs.Base.{numberOf, Slot, closed, Table, slot, ppaNumbers, noPpa}
 use Rattle.paper.specs.Correlations.{occurrences}
-use Rattle.paper.specs.Refusals.{Outcome}
-use Rattle.paper.specs.Rows.{everyState}
 use Rattle.paper.specs.Sound.{sound}
 use Rattle.paper.specs.Step.{step}
 use Rattle.paper.specs.declared.Ppa.{Ppa}
 use Rattle.paper.specs.declared.State.{State}
 use Rattle.paper.specs.declared.State.the-variants.{Unattached, Unbound, Idle, OutconPending, InconPending, DataXfer, UserResetPending, ProvResetPending}
-use Rattle.image.specs.Layout.{ppaBase, slotBase, listed, ppaFrom, waitingFrom, slotAt, ppaAt, tableOf, joined, maskOf, ppaBytes, streamBytes, waitingBytes, slotBytes, headerBytes, imageOf, isState, tidySlot, slotParts, tidyPpas, areBytes, tidy, soundImage}
+use Rattle.image.specs.Layout.{ppaBase, slotBase, listed, ppaFrom, waitingFrom, slotAt, ppaAt, tableOf, joined, ppaBytes, streamBytes, waitingBytes, slotBytes, headerBytes, imageOf, isState, tidySlot, slotParts, tidyPpas, tidy, soundImage}
 use Rattle.image.specs.Shape.{Shaped}
 use Rattle.image.proofs.Joined.{each-listed}
 use Rattle.image.proofs.Shapes.{ppas-length, image-length}
 use Rattle.image.proofs.TableBack.{slot-part, table-back}
-use Rattle.image.proofs.TidyImage.{Tidy, tidy-parts, shaped-table}
+use Rattle.image.proofs.TidyImage.{tidy-parts, shaped-table}
 use Rattle.outcomes.specs.Leaving.{Left, leaving, callOf}
 use Rattle.promises.specs.Soundness.{Bytes, Sound}
 use Rattle.promises.proofs.Lent.{shaped, image-bytes}
@@ -75,7 +72,7 @@ slot-tidy x h =
     let z : List ℕ = replicate (32 - length (flat w)) 0 in
     to-both _ _ (state-is (x .stream .state)) (to-both _ _ (le-leb _ _ h)
     (ap (λ (l : List ℕ). allZero (take (32 - length w * 4) l))
-      (drop-past (take 10 (slotBytes x)) (flat w ++ z) (length w * 4) 10 refl ∙ drop-all (flat w) z (length w * 4) (flat-length w) ∙ sym (append-nil z))
+    (drop-past (take 10 (slotBytes x)) (flat w ++ z) (length w * 4) 10 refl ∙ drop-all (flat w) z (length w * 4) (flat-length w) ∙ sym (append-nil z))
     ∙ zeros (32 - length w * 4) (32 - length (flat w)) [] (omega (arith, flat-length w))))
 
 module _ (t : Table) (k : Sound t) where
@@ -91,15 +88,15 @@ module _ (t : Table) (k : Sound t) where
       let r : List ℕ = joined slotBytes (t .slots) in
       to-both _ _ (le-leb _ _ (k .most))
       (ap (λ (c : List ℕ). allZero (take (80 - length (t .ppas) * 10) c))
-        (drop-past (take 8 (imageOf t)) ((l ++ z) ++ r) (length (t .ppas) * 10) 8 refl
-        ∙ ap (drop (length (t .ppas) * 10)) (append-assoc l z r)
-        ∙ drop-all l (z ++ r) (length (t .ppas) * 10) (ppas-length t (shaped t k)))
+      (drop-past (take 8 (imageOf t)) ((l ++ z) ++ r) (length (t .ppas) * 10) 8 refl
+      ∙ ap (drop (length (t .ppas) * 10)) (append-assoc l z r)
+      ∙ drop-all l (z ++ r) (length (t .ppas) * 10) (ppas-length t (shaped t k)))
       ∙ zeros (80 - length (t .ppas) * 10) (80 - length l) r (omega (arith, ppas-length t (shaped t k))))
 
   slots-tidy : allOf tidySlot (slotParts (imageOf t)) ≡ true
   slots-tidy = at-all tidySlot (slotBytes closed) (slotParts (imageOf t))
       (each-listed (λ (c : List ℕ). tidySlot c ≡ true) (λ i. part (imageOf t) (slotBase i) 42) 0 16 (slotBytes closed)
-        (λ i h. ap tidySlot (slot-part t (shaped t k) i h) ∙ slot-tidy (slot t i) (shaped t k .eight i)) (slot-tidy closed (omega arith)))
+      (λ i h. ap tidySlot (slot-part t (shaped t k) i h) ∙ slot-tidy (slot t i) (shaped t k .eight i)) (slot-tidy closed (omega arith)))
 
   image-tidy : tidy (imageOf t) ≡ true
   unfolding tidy
@@ -142,8 +139,8 @@ module _ (img : List ℕ) (h : tidy img ≡ true) where
   unfolding occurrences tableOf slotAt waitingFrom
   calls-small n b = no-sum (λ (x : Slot). occ n (x .waiting)) closed (listed (slotAt img) 0 16)
       (each-listed (λ (x : Slot). occ n (x .waiting) ≡ 0) (slotAt img) 0 16 closed
-        (λ i d. none-listed (λ k. be32At (part img (slotBase i) 42) (k * 4 + 10)) 0 (getD (part img (slotBase i) 42) 9 0) n (λ k. word-small (part img (slotBase i) 42) (k * 4 + 10) (part-bytes img (slotBase i) 42 bytes)) b)
-        refl)
+      (λ i d. none-listed (λ k. be32At (part img (slotBase i) 42) (k * 4 + 10)) 0 (getD (part img (slotBase i) 42) 9 0) n (λ k. word-small (part img (slotBase i) 42) (k * 4 + 10) (part-bytes img (slotBase i) 42 bytes)) b)
+      refl)
 
   ppas-small : (p : ℕ) → 2 ^ 32 ≤ p → occ p (ppaNumbers (tableOf img)) ≡ 0
   unfolding tableOf ppaAt ppaFrom

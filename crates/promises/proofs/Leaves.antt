@@ -3,15 +3,14 @@ use Prim.Native.Nat.{ℕ, _+_, _-_, _≤_, _<_, _^_, min}
 use mathlib.Core.Path.{_≡_, refl, sym, ap, _∙_}
 use mathlib.Core.Bool.{Bool, true, false, not, false≢true}
 use mathlib.Core.List.{List, [], _∷_, _++_, map}
-use lib.ListN.{length, getD, length-set, length-append}
+use lib.ListN.{length, length-set, length-append}
 use lib.Dec.{eqb, ltb}
 use native.Mathlib.Omega.{arith}
 use borrow.Author.Tests.{eqb-true, ltb-true, ltb-false, lt-ltb}
-use Rattle.ledger.specs.Choice.{pick, both}
 use Rattle.ledger.specs.Tally.{oneIf, occ, has, without, free}
 use Rattle.ledger.proofs.Tallies.{both-of, length-without-le}
 use Rattle.book.proofs.Sums.{occ-append, occ-without, sum-put, each-put, each-append}
-use Rattle.paper.specs.Base.{numberOf, number, isIn, noStream, inState, Slot, closed, justOpened, Table, slot, stream, waiting, ppaNumbers, noPpa, withSlot, withCalls, withStream, withCounter, withPpa, remembering}
+use Rattle.paper.specs.Base.{numberOf, number, isIn, inState, Slot, closed, Table, slot, stream, waiting, ppaNumbers, noPpa, withSlot, withCalls, withStream, withCounter, withPpa, remembering}
 use Rattle.paper.specs.Saps.{listens}
 use Rattle.paper.specs.Rows.{standing, losing, moved}
 use Rattle.paper.specs.Correlations.{occurrences}
@@ -22,7 +21,7 @@ use Rattle.paper.specs.declared.Ppa.{Ppa}
 use Rattle.paper.specs.declared.PpaNumber.{PpaNumber}
 use Rattle.paper.specs.declared.Correlation.{Correlation}
 use Rattle.promises.specs.Soundness.{cap, Bytes, Ok, Sound}
-use Rattle.promises.proofs.Changes.{ok-closed, ok-standing, ok-moved, in-nine}
+use Rattle.promises.proofs.Changes.{ok-standing, ok-moved, in-nine}
 
 abbrev pub hearing : PpaNumber → ℕ → Stream → ℕ
 hearing p q s = oneIf (listens p q s)
@@ -148,4 +147,3 @@ ppa-sound t k p l n u m = record {
     differs : (q : ℕ) (b : Bool) → eqb q (p .number .0) ≡ b → occ (p .number .0) (ppaNumbers t) ≤ 0 → occ q (ppaNumbers t) + (oneIf (eqb q (p .number .0)) + 0) ≤ min 1 (2 ^ 32 - q)
     differs q true e h = rw e (let m : q ≡ p .number .0 = eqb-true q (p .number .0) e in let z : occ q (ppaNumbers t) ≡ occ (p .number .0) (ppaNumbers t) = ap (λ (q : ℕ). occ q (ppaNumbers t)) m in omega arith)
     differs q false e h = rw e (omega (arith, k .differ q))
-

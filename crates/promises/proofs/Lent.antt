@@ -1,6 +1,6 @@
 -- The image of a sound table is one of bytes, and has its shape.
-use Prim.Native.Nat.{ℕ, zero, suc, _+_, _*_, _-_, _/_, _%_, _^_, _≤_, _<_}
-use mathlib.Core.Path.{_≡_, refl, sym, ap, _∙_}
+use Prim.Native.Nat.{ℕ, zero, suc, _+_, _*_, _-_, _/_, _%_, _^_, _<_}
+use mathlib.Core.Path.{_≡_, refl, ap}
 use mathlib.Core.Bool.{Bool, true, false, not, false≢true}
 use mathlib.Core.List.{List, [], _∷_, _++_, map}
 use lib.ListN.{length, getD, replicate}
@@ -8,8 +8,8 @@ use lib.Dec.{eqb, ltb, leb}
 use native.Mathlib.Omega.{arith}
 use native.Mathlib.Nat.{pow-succ'}
 use borrow.Author.Tests.{eqb-true, eqb-false, ltb-true, ltb-false, lt-ltb, leb-true, eq-eqb}
-use Rattle.ledger.specs.Choice.{pick, both, either}
-use Rattle.ledger.specs.Tally.{oneIf, occ, has, allOf}
+use Rattle.ledger.specs.Choice.{both, either}
+use Rattle.ledger.specs.Tally.{oneIf, occ, has}
 use Rattle.ledger.proofs.Tallies.{both-of, to-both, at-all}
 use Rattle.book.proofs.Sums.{sum-at}
 use Rattle.octets.specs.Numbers.{be16, be32}
@@ -23,7 +23,7 @@ use Rattle.paper.specs.declared.Stream.{Stream}
 use Rattle.paper.specs.declared.Ppa.{Ppa}
 use Rattle.image.specs.Layout.{padTo, joined, maskOf, ppaBytes, streamBytes, waitingBytes, slotBytes, headerBytes, imageOf, areBytes}
 use Rattle.image.specs.Shape.{Shaped}
-use Rattle.promises.specs.Soundness.{cap, Bytes, Ok, Sound}
+use Rattle.promises.specs.Soundness.{Sound}
 use Rattle.promises.proofs.Changes.{eight}
 
 pub shaped : (t : Table) → Sound t → Shaped t
@@ -161,4 +161,3 @@ module _ (t : Table) (k : Sound t) where
   pub image-bytes : areBytes (imageOf t) ≡ true
   unfolding imageOf
   image-bytes = append-bytes (headerBytes t) (joined slotBytes (t .slots)) header-bytes (joined-bytes slotBytes closed (t .slots) slot-bytes)
-

@@ -1,6 +1,7 @@
 -- The sentences of the demands, one theorem each.
 pub mod ErrorAck
 pub mod OutState
+pub mod Refused
 pub mod NextNumber
 pub mod Changes
 pub mod Leaves

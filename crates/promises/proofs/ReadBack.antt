@@ -1,33 +1,32 @@
 -- The lines read from the bytes written are those of the records.
-use Prim.Native.Nat.{ℕ, zero, suc, _+_, _*_, _-_, _/_, _%_, _≤_, _<_}
+use Prim.Native.Nat.{ℕ, zero, suc, _+_, _*_, _-_, _/_, _%_, _≤_}
 use mathlib.Core.Path.{_≡_, refl, sym, ap, _∙_}
-use mathlib.Core.Bool.{Bool, true, false, not, false≢true}
+use mathlib.Core.Bool.{Bool, true, false, not}
 use mathlib.Core.List.{List, [], _∷_, _++_, map}
-use lib.ListN.{length, getD, take, drop, replicate, length-append, length-replicate}
+use lib.ListN.{length, drop, replicate, length-append, length-replicate}
 use lib.Seq.{drop-at}
-use lib.Dec.{eqb, ltb}
+use lib.Dec.{eqb}
 use native.Mathlib.Omega.{arith}
-use borrow.Author.Tests.{eqb-true, eqb-false, ltb-false}
-use Rattle.ledger.specs.Choice.{pick, either, _⇒_∣_}
+use borrow.Author.Tests.{eqb-false, ltb-false}
+use Rattle.ledger.specs.Choice.{pick, _⇒_∣_}
 use Rattle.book.specs.declared.End.{End}
 use Rattle.book.specs.declared.End.the-variants.{Accepted, Withdrawn}
 use Rattle.book.specs.declared.Line.{Line}
 use Rattle.book.specs.declared.Line.the-variants.{Came, Went, Given, Nothing}
-use Rattle.octets.specs.Numbers.{be32At, be32}
-use Rattle.octets.specs.Blocks.{flat, pad}
+use Rattle.octets.specs.Blocks.{flat}
 use Rattle.octets.proofs.Laws.{flat-length}
-use Rattle.paper.specs.RecordsOut.{Record, order, flush, up, flushIf, inOrder, orderBytes, messageBytes, bytesOf, allBytes}
-use Rattle.paper.specs.Replies.{infoOf, fieldsOf, goesAsC, contentOf}
+use Rattle.paper.specs.RecordsOut.{Record, order, flush, up, flushIf, inOrder, bytesOf, allBytes}
+use Rattle.paper.specs.Replies.{fieldsOf, contentOf}
 use Rattle.paper.specs.declared.LineOrder.{LineOrder}
 use Rattle.paper.specs.declared.LineOrder.the-variants as lineOrder
 use Rattle.paper.specs.declared.Reply.{Reply}
 use Rattle.paper.specs.declared.Reply.the-variants as reply
 use Rattle.paper.specs.declared.Input.{Input}
 use Rattle.ledger.proofs.Tallies.{chosen}
-use Rattle.paper.specs.Base.{isIn, Slot, Table, slot, stream, waiting, macOf}
+use Rattle.paper.specs.Base.{isIn, Table, stream, waiting}
 use Rattle.paper.specs.Messages.{codeIn, primitiveOf, sized, readAs, askedBy}
-use Rattle.paper.specs.RecordsIn.{inputOf, messageIn, addressIn, calledIn, callingIn}
-use Rattle.paper.specs.Refusals.{Outcome, served, refused}
+use Rattle.paper.specs.RecordsIn.{inputOf, messageIn, calledIn, callingIn}
+use Rattle.paper.specs.Refusals.{Outcome, refused}
 use Rattle.paper.specs.Rows.{ordersOf, flushes, repliesTo, performed}
 use Rattle.paper.specs.ErrorOrder.{judgeAttach, judgeListening, judgeBind, judgeConnect, carrierOf, judgeOther, judgeItself, judgeCarrier, judgeAccept, judgeDenial, judgeDisconnect, judgeServed, judge, verdictOn}
 use Rattle.paper.specs.Events.{eventRow, peerAccepted, peerGone, callWithdrawn, peerReset, resetConfirmed, rings, heardBy, callArrives}
@@ -51,7 +50,7 @@ use Rattle.paper.specs.declared.Input.the-variants as input
 use Rattle.promises.specs.Soundness.{Sound}
 use Rattle.promises.proofs.Steps.{part-length}
 use Rattle.promises.proofs.Room.{part-short, address-short, info-short, info-size}
-use Rattle.transcript.specs.Transcript.{isMessage, sizeOut}
+use Rattle.transcript.specs.Transcript.{sizeOut}
 use Rattle.book.specs.Lines.{asker, parting, endLine, upLine, lineAt, linesIn, openingLines, linesOf}
 use Rattle.promises.proofs.Said.{lineOf, said}
 

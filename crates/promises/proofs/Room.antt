@@ -1,24 +1,23 @@
 -- What a call writes goes into 128 bytes.
-use Prim.Native.Nat.{ℕ, zero, suc, _+_, _*_, _-_, _≤_, _<_}
-use mathlib.Core.Path.{_≡_, refl, sym, ap, _∙_}
-use mathlib.Core.Bool.{Bool, true, false, not, false≢true}
+use Prim.Native.Nat.{ℕ, zero, suc, _+_, _*_, _-_, _≤_}
+use mathlib.Core.Path.{_≡_, refl, ap, _∙_}
+use mathlib.Core.Bool.{Bool, true, false, not}
 use mathlib.Core.List.{List, [], _∷_, _++_, map}
-use lib.ListN.{length, getD, take, drop, replicate, length-append, length-replicate}
+use lib.ListN.{length, take, drop, replicate, length-append, length-replicate}
 use lib.Dec.{eqb, ltb}
 use native.Mathlib.Omega.{arith}
-use borrow.Author.Tests.{not-true, not-false}
 use Rattle.ledger.specs.Choice.{pick}
 use Rattle.ledger.specs.Tally.{firstOf}
 use Rattle.ledger.proofs.Tallies.{chosen, picked}
 use Rattle.octets.specs.Runs.{part}
-use Rattle.octets.specs.Blocks.{flat, pad}
+use Rattle.octets.specs.Blocks.{flat}
 use Rattle.octets.proofs.Laws.{flat-length}
-use Rattle.paper.specs.Base.{isIn, isBound, Slot, Table, slot, stream, waiting, tokenOf, macOf, noPpa, ppaNumbers}
+use Rattle.paper.specs.Base.{isIn, isBound, Table, slot, stream, waiting, tokenOf, macOf, ppaNumbers}
 use Rattle.paper.specs.Messages.{codeIn}
 use Rattle.paper.specs.RecordsIn.{inputOf, addressIn, calledIn, callingIn}
-use Rattle.paper.specs.RecordsOut.{Record, order, flush, up, flushIf, inOrder, orderBytes, messageBytes, bytesOf, allBytes}
-use Rattle.paper.specs.Replies.{sapBytes, addressOf, infoOf, infoTail, fieldsOf, goesAsC, contentOf}
-use Rattle.paper.specs.Refusals.{Outcome, served, refused}
+use Rattle.paper.specs.RecordsOut.{Record, up, flushIf, inOrder, bytesOf, allBytes}
+use Rattle.paper.specs.Replies.{sapBytes, addressOf, infoOf, infoTail, fieldsOf, contentOf}
+use Rattle.paper.specs.Refusals.{Outcome, refused}
 use Rattle.paper.specs.Rows.{ordersOf, flushes, repliesTo, performed}
 use Rattle.paper.specs.Events.{eventRow, peerAccepted, peerGone, callWithdrawn, peerReset, resetConfirmed, rings, heardBy, callArrives}
 use Rattle.paper.specs.Openings.{addsPpa, opens, goodbye, goodbyes, closes}
@@ -170,4 +169,3 @@ module _ (t : Table) (k : Sound t) where
 pub room-enough : (t : Table) → Sound t → (r : List ℕ) (room : ℕ) → length (allBytes (step t r room .records)) ≤ 128
 unfolding step
 room-enough t k r room = chosen (Short t k) _ _ _ (λ e. none t k _) (λ e. chosen (Short t k) _ _ _ (λ e. none t k _) (λ e. chosen (Short t k) _ _ _ (λ e. none t k _) (λ e. short-serve t k r (inputOf r)))) .short
-

@@ -1,24 +1,23 @@
 -- What the lines of a call say of a stream is what the table shows.
-use Prim.Native.Nat.{ℕ, zero, suc, _≤_, _<_}
+use Prim.Native.Nat.{ℕ, _≤_, _<_}
 use mathlib.Core.Path.{_≡_, refl, sym, ap, subst, _∙_}
 use mathlib.Core.Bool.{Bool, true, false, not, false≢true}
-use mathlib.Core.List.{List, [], _∷_, _++_, map}
-use lib.ListN.{length, getD}
+use mathlib.Core.List.{List, [], _∷_, _++_}
+use lib.ListN.{length}
 use lib.Seq.{getD-set-same, getD-set-other}
 use lib.Dec.{eqb, ltb}
 use native.Mathlib.Omega.{arith}
-use borrow.Author.Tests.{eqb-true, eqb-false, eq-eqb, ltb-true, lt-ltb}
+use borrow.Author.Tests.{eqb-true, eqb-false, eq-eqb, lt-ltb}
 use Rattle.ledger.specs.Choice.{pick}
-use Rattle.ledger.specs.Tally.{occ, has, without}
+use Rattle.ledger.specs.Tally.{has, without}
 use Rattle.book.specs.declared.End.{End}
 use Rattle.book.specs.declared.Line.{Line}
 use Rattle.book.specs.declared.Line.the-variants.{Began, Came, Went, Given, Nothing}
-use Rattle.book.proofs.Shades.{silent}
+use Rattle.book.proofs.Shades.{silent, shade, shades, fairs, rooteds, openingsIn, Silent, silence, Taken}
 use Rattle.book.specs.Book.{grantBy}
-use Rattle.ledger.proofs.Tallies.{to-both, within, empty, picked}
+use Rattle.ledger.proofs.Tallies.{to-both, within, picked}
 use Rattle.book.proofs.Sums.{there, put-in, put-same, put-cases}
-use Rattle.book.proofs.Shades.{shade, shades, fairs, rooteds, openingsIn, Silent, silence, Taken}
-use Rattle.paper.specs.Base.{number, isIn, noStream, inState, Slot, closed, justOpened, Table, slot, stream, waiting, withSlot, withCalls, withStream, withCounter, remembering}
+use Rattle.paper.specs.Base.{number, isIn, inState, Slot, closed, justOpened, Table, slot, stream, waiting, withSlot, withCalls, withStream, withCounter, remembering}
 use Rattle.paper.specs.Rows.{boundTo}
 use Rattle.paper.specs.declared.State.{State}
 use Rattle.paper.specs.declared.Stream.{Stream}
@@ -138,4 +137,3 @@ shows-closes t i ys h l d s = record {
   rootedly = λ k a. l s .rootedly k;
   opens = λ k a o. rw (l s .opens k) (a (put-cases (λ (x : Slot). x .isOpen ≡ true → slot t s .isOpen ≡ true) closed (t .slots) i s closed (λ e c. absurd (false≢true c)) (λ c. c) o));
 }
-

@@ -5,16 +5,16 @@ use mathlib.Core.Bool.{Bool, true, false, not, false≢true}
 use mathlib.Core.List.{List, [], _∷_, _++_, map}
 use lib.ListN.{length, getD, take, drop, replicate, length-append, length-drop}
 use lib.Seq.{getD-set-other, length-take-le}
-use lib.Dec.{eqb, ltb, leb}
+use lib.Dec.{eqb, ltb}
 use native.Mathlib.Omega.{arith}
 use borrow.Author.Tests.{eqb-true, eqb-false, eq-eqb, ltb-true, ltb-false, lt-ltb, le-ltb, ne-eqb, leb-true, leb-false, not-true, not-false}
-use Rattle.ledger.specs.Choice.{pick, both, either, asks, _⇒_∣_}
-use Rattle.ledger.specs.Tally.{oneIf, occ, has, without, sumOf, allOf, firstOf, free, nextFrom}
+use Rattle.ledger.specs.Choice.{pick, both, either, asks}
+use Rattle.ledger.specs.Tally.{oneIf, occ, has, without, allOf, firstOf, free, nextFrom}
 use Rattle.ledger.proofs.Tallies.{both-of, picked, to-both, chosen, empty, first-holds, either-no, first-none, length-without, sum-most}
 use Rattle.book.proofs.Sums.{sum-at, of-asks, among}
 use Rattle.ledger.proofs.Found.{finds}
-use Rattle.paper.specs.Base.{numberOf, number, isIn, noStream, inState, Slot, closed, justOpened, Table, fresh, slot, stream, waiting, lowestFree, ppaNumbers, knows, withSlot, withCalls, withStream, withPpa, remembering}
-use Rattle.paper.specs.Saps.{isSap, isType, grantOf, asBindAllows, listens, listener, isListenedFor}
+use Rattle.paper.specs.Base.{numberOf, number, isIn, noStream, inState, Slot, closed, justOpened, Table, fresh, slot, stream, waiting, lowestFree, ppaNumbers, knows, withSlot, withCalls, withPpa, remembering}
+use Rattle.paper.specs.Saps.{isSap, isType, grantOf, listens, listener, isListenedFor}
 use Rattle.paper.specs.Messages.{codeIn, askedBy}
 use Rattle.paper.specs.RecordsIn.{kindOf, sizeOf, recordSize, macIn, inputAs, inputOf}
 use Rattle.octets.specs.Runs.{part}
@@ -24,14 +24,13 @@ use Rattle.paper.specs.RecordsOut.{Record, order, flush, up, flushIf, inOrder}
 use Rattle.book.specs.declared.End.the-variants.{Accepted, Denied, Withdrawn}
 use Rattle.book.specs.declared.Line.{Line}
 use Rattle.book.specs.declared.Line.the-variants.{Came, Went, Nothing}
-use Rattle.book.proofs.Shades.{isNothing, silent}
-use Rattle.book.proofs.Shades.{Taken, emptied, untouched, ungranted}
+use Rattle.book.proofs.Shades.{isNothing, silent, Taken, emptied, untouched, ungranted}
 use Rattle.paper.specs.declared.LineOrder.the-variants as lineOrder
 use Rattle.paper.specs.declared.Reply.the-variants as reply
 use Rattle.book.specs.Lines.{parting}
 use Rattle.promises.proofs.Said.{lineOf, said}
 use Rattle.promises.proofs.Sights.{Shows, shows-still, shows-stream, shows-less, shows-more, shows-opens, shows-binds, shows-closes}
-use Rattle.paper.specs.Refusals.{Outcome, served, refused, notSound}
+use Rattle.paper.specs.Refusals.{Outcome, served, refused}
 use Rattle.paper.specs.Rows.{statesOf, ofModeOne, hasRow, attachedTo, boundTo, losing, carryingItself, moved, standing, tableAfter, ordersOf, flushes, okAck, repliesTo, performed}
 use Rattle.paper.specs.ErrorOrder.{judgeAttach, judgeListening, judgeBind, judgeConnect, carrierOf, judgeOther, judgeItself, judgeCarrier, judgeAccept, judgeDenial, judgeDisconnect, isWaiting, judgeServed, judge, verdictOn}
 use Rattle.paper.specs.Events.{eventRow, peerAccepted, peerGone, callWithdrawn, peerReset, resetConfirmed, ringing, rings, hears, heardBy, callArrives}
@@ -42,7 +41,6 @@ use Rattle.paper.specs.Step.{answered, ofOpen, message, serve, step}
 use Rattle.paper.specs.declared.State.{State}
 use Rattle.paper.specs.declared.State.the-variants.{Idle, OutconPending, InconPending, DataXfer, UserResetPending, ProvResetPending}
 use Rattle.paper.specs.declared.Stream.{Stream}
-use Rattle.paper.specs.declared.Ppa.{Ppa}
 use Rattle.paper.specs.declared.PpaNumber.{PpaNumber}
 use Rattle.paper.specs.declared.Correlation.{Correlation}
 use Rattle.paper.specs.declared.Token.{Token}
@@ -63,10 +61,10 @@ use Rattle.paper.specs.declared.Verdict.{Verdict}
 use Rattle.paper.specs.declared.Verdict.the-variants.{Serves, Fails}
 use Rattle.paper.specs.declared.Input.{Input}
 use Rattle.paper.specs.declared.Input.the-variants as input
-use Rattle.promises.specs.Soundness.{Bytes, Ok, Sound}
-use Rattle.promises.proofs.Changes.{allows, allowed, opened, eight, quiet, in-nine, ok-closed, ok-none, ok-attached, ok-bound, ok-seated, ok-standing}
+use Rattle.promises.specs.Soundness.{Bytes, Sound}
+use Rattle.promises.proofs.Changes.{allows, allowed, opened, eight, quiet, in-nine, ok-closed, ok-none, ok-attached, ok-bound, ok-seated}
 use Rattle.promises.proofs.Tested.{sound-test}
-use Rattle.promises.proofs.Leaves.{hearing, put-sound, calls-sound, stream-sound, same-ear, deaf, moved-sound, less-sound, losing-sound, more-sound, remembering-sound, ppa-sound}
+use Rattle.promises.proofs.Leaves.{hearing, put-sound, stream-sound, deaf, moved-sound, less-sound, losing-sound, more-sound, remembering-sound, ppa-sound}
 
 -- ---- what is shown of an outcome, and of a verdict on a message of stream i
 pub record Good (t : Table) (q : Input) (o : Outcome) : Type 0 where
@@ -522,4 +520,3 @@ fresh-at (suc n) (suc i) = fresh-at n i
 pub fresh-sound : Sound fresh
 unfolding occurrences listens
 fresh-sound = record { sixteen = refl; small = omega arith; each = λ i. rw (fresh-at 16 i) (ok-closed []); once = λ n. omega arith; alone = λ p q. omega arith; differ = λ p. omega arith; most = omega arith; macs = λ j. (refl, no-bytes 6); recalls = λ e i. rw (fresh-at 16 i) }
-

@@ -7,14 +7,14 @@ use lib.ListN.{length, getD}
 use lib.Dec.{eqb, ltb, leb}
 use native.Mathlib.Omega.{arith}
 use borrow.Author.Tests.{eqb-true, eqb-false, eq-eqb, ne-eqb, ltb-true, ltb-false, lt-ltb, leb-true, leb-false, le-leb, lt-leb, not-true}
-use Rattle.ledger.specs.Choice.{pick, both, either, asks}
-use Rattle.ledger.specs.Tally.{oneIf, occ, has, sumOf, allOf}
+use Rattle.ledger.specs.Choice.{pick, both, either}
+use Rattle.ledger.specs.Tally.{oneIf, occ, has, allOf}
 use Rattle.ledger.proofs.Tallies.{both-of, to-both, picked, all-at, at-all, empty}
 use Rattle.book.proofs.Sums.{sum-at, sum-some, all-occ, occ-all, all-sum, of-asks, to-asks}
-use Rattle.paper.specs.Base.{numberOf, number, isIn, isBound, noStream, Slot, closed, Table, slot, stream, waiting, ppaNumbers, noPpa}
+use Rattle.paper.specs.Base.{numberOf, number, isIn, isBound, Slot, closed, Table, slot, stream, waiting, ppaNumbers, noPpa}
 use Rattle.paper.specs.Saps.{asBindAllows, listens}
 use Rattle.paper.specs.Correlations.{occurrences}
-use Rattle.paper.specs.Sound.{every, sameAnswer, unbound, holdsNothing, openTests, soundSlot, isSingle, listenersOf, isAlone, remembersOpenings, soundTests, sound}
+use Rattle.paper.specs.Sound.{every, sameAnswer, unbound, holdsNothing, openTests, soundSlot, isSingle, listenersOf, isAlone, soundTests, sound}
 use Rattle.paper.specs.declared.State.{State}
 use Rattle.paper.specs.declared.State.the-variants.{Unattached, Unbound, Idle, OutconPending, InconPending, DataXfer, UserResetPending, ProvResetPending}
 use Rattle.paper.specs.declared.Stream.{Stream}
@@ -169,4 +169,3 @@ sound-tested t l c a v w h = record {
     four : (b : Bool) → b ≡ false → either b (allOf (λ (x : Slot). not (x .isOpen)) (t .slots)) ≡ true → (i : ℕ) → slot t i .isOpen ≡ false
     four true e h i = absurd (false≢true (sym e))
     four false e h i = not-true _ (all-at (λ (x : Slot). not (x .isOpen)) closed refl (t .slots) h i)
-

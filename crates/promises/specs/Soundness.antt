@@ -1,7 +1,7 @@
 -- A sound table, as facts: what `sound` of the rule paper tests, and what its types cannot say.
 use Prim.Native.Nat.{ℕ, _-_, _≤_, _<_, _^_, min}
 use mathlib.Core.Path.{_≡_}
-use mathlib.Core.Bool.{Bool, true, false}
+use mathlib.Core.Bool.{true, false}
 use mathlib.Core.List.{List}
 use lib.ListN.{length, getD}
 use lib.Dec.{ltb}
@@ -52,4 +52,3 @@ pub record Sound (t : Table) : Type 0 where
   pub macs : (j : ℕ) → (length (getD (t .ppas) j noPpa .mac) ≡ 6) × Bytes (getD (t .ppas) j noPpa .mac)
   -- a table with an open stream remembers an opening
   pub recalls : t .remembers ≡ false → (i : ℕ) → slot t i .isOpen ≡ false
-
