@@ -15,6 +15,7 @@ RATTLE = crates.txt $(shell find crates -name '*.rt' -o -name '*.antt')
 LIBRARY = target/lib/libkungthevi.a
 INNER = target/staticlib/libinner.a
 REPLAY = target/bin/replay
+FATES = target/bin/fates
 
 SECOND = $(filter-out c/second/main.c,$(wildcard c/second/*.c))
 SELFTEST = $(wildcard c/second/test/*.c)
@@ -64,9 +65,9 @@ target/lib/kungthevi.h: c/kungthevi.h
 	@mkdir -p $(@D)
 	cp $< $@
 
-$(REPLAY): $(RATTLE)
+$(REPLAY) $(FATES): target/bin/%: $(RATTLE)
 	@mkdir -p $(@D)
-	rt check replay 2>&1 | $(PROVED)
+	rt check $* 2>&1 | $(PROVED)
 
 $(INNER): $(RATTLE)
 	@mkdir -p $(@D)
@@ -157,13 +158,16 @@ target/captures/%: captures/%.records captures/assemble.py
 	@mkdir -p $(@D)
 	python3 captures/assemble.py $< > $@.part && mv $@.part $@
 
-# each capture prints its expected text: by the proved program, and by the second one
-texts: $(REPLAY) target/c/second captures
-	tools/texts $(REPLAY)
-	tools/texts target/c/second
+# each capture prints its expected texts: by the proved programs, by the second one, and the fates by the command too
+texts: $(REPLAY) $(FATES) target/c/second target/c/kungthevi captures
+	tools/texts text $(REPLAY)
+	tools/texts text target/c/second
+	tools/texts fates $(FATES)
+	tools/texts fates target/c/second fates
+	tools/texts fates target/c/kungthevi fates
 
-# 100 generated captures of 400 calls print the same by all three programs
-alike: $(REPLAY) target/c/kungthevi target/c/second target/c/generate
+# 100 generated captures of 400 calls print the same two texts by all programs
+alike: $(REPLAY) $(FATES) target/c/kungthevi target/c/second target/c/generate
 	tools/alike 100 400
 
 # the named captures by the definitions

@@ -6,6 +6,7 @@
 #include <string.h>
 #include <unistd.h>
 
+#include "fates.h"
 #include "message.h"
 #include "replay.h"
 #include "status.h"
@@ -13,6 +14,7 @@
 
 static const char help[] =
     "usage: kungthevi replay [FILE..]\n"
+    "       kungthevi fates [FILE..]\n"
     "       kungthevi --help\n"
     "\n"
     "Answers the calls of a capture as a correct DLPI provider does. The answers come from a\n"
@@ -32,10 +34,6 @@ static const char help[] =
     "    4 refused 2              call 4 was refused, for the reason of that number\n"
     "    4 records, 1 refused     at the end\n"
     "\n"
-    "  Several FILEs print one such text behind the other, in their order. A FILE that cannot be\n"
-    "  read prints no text, one that cannot be read to its end no last line; the others are\n"
-    "  replayed all the same.\n"
-    "\n"
     "  A call is refused for these reasons:\n"
     "     2  the stream is over 15 or not open\n"
     "     3  all 16 streams are open already\n"
@@ -47,6 +45,24 @@ static const char help[] =
     "     9  G after any opening, a ninth PPA, or a number already there\n"
     "    10  no record: bytes past L that are not zero, an unknown kind or a cut body. The last two\n"
     "        end the reading; standard error says at which byte (from 0) and record (from 1).\n"
+    "\n"
+    "kungthevi fates [FILE..]\n"
+    "  Makes the same calls, and prints what became of each connection indication that was\n"
+    "  written to a stream: words and numbers between blanks, as a sheet takes them.\n"
+    "\n"
+    "    dlpi fates               at the beginning\n"
+    "    call 0 1 2 7 accepted    stream 0, its opening 1, the opening's call 2, with correlation\n"
+    "                             number 7; or denied, withdrawn, dropped (at close), open\n"
+    "    opening 0 1 5 1 1 1 2 0  stream 0, its opening 1, its calls, and how many of them were\n"
+    "                             accepted, denied, withdrawn, dropped and are open\n"
+    "    total 2 5 1 1 1 2 0      openings, and the same counts over all of them: at the end\n"
+    "\n"
+    "  The line of a call comes when it ends, that of an opening when its stream is opened again\n"
+    "  or the capture ends; the calls still open come then too, before their opening.\n"
+    "\n"
+    "Several FILEs print one text behind the other, in their order. A FILE that cannot be read\n"
+    "prints no text, one that cannot be read to its end no last line, and of fates no line of\n"
+    "what is still open; the others are printed all the same.\n"
     "\n"
     "Exit status\n"
     "  0  every record was served\n"
@@ -63,6 +79,7 @@ struct command {
 
 static const struct command commands[] = {
     { "replay", replay },
+    { "fates", fates },
 };
 
 static const struct command *command_of_name(const char *name)

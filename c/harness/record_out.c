@@ -31,3 +31,9 @@ struct record_out record_out_read(const uint8_t *bytes)
     }
     return record;
 }
+
+uint32_t record_out_number(const struct record_out *record, size_t place)
+{
+    const uint8_t *bytes = record->fields + place;
+    return (uint32_t)bytes[0] << 24 | (uint32_t)bytes[1] << 16 | (uint32_t)bytes[2] << 8 | bytes[3];
+}

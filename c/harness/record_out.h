@@ -16,4 +16,7 @@ struct record_out {
 /* Reads the record that stands at the start of the bytes. */
 struct record_out record_out_read(const uint8_t *bytes);
 
+/* The four-byte number at that place of its fields. */
+uint32_t record_out_number(const struct record_out *record, size_t place);
+
 #endif

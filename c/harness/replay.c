@@ -1,9 +1,7 @@
 /* kungthevi replay: prints what a correct provider answers to the calls of captures. */
 #include "replay.h"
 
-#include "../kungthevi.h"
-#include "capture.h"
-#include "record_out.h"
+#include "captures.h"
 
 static void print_words(struct text *text, uint64_t call, const char *words)
 {
@@ -31,75 +29,46 @@ static void print_record(struct text *text, uint64_t call, const struct record_o
     text_character(text, '\n');
 }
 
-static void print_records(struct text *text, uint64_t call, const uint8_t *room, size_t written)
+static void print_records(struct text *text, const struct calls *calls)
 {
-    size_t at = 0;
-    while (at < written) {
-        struct record_out record = record_out_read(room + at);
-        print_record(text, call, &record);
-        at += record.size;
-    }
+    struct record_out record;
+    size_t place = 0;
+    while (calls_record(calls, &place, &record))
+        print_record(text, calls->capture->number, &record);
 }
 
-static void print_answer(struct text *text, uint64_t call, uint32_t answer, const uint8_t *room)
+static void print_answer(struct text *text, const struct calls *calls)
 {
-    if (KUNGTHEVI_REFUSAL(answer) != 0)
-        print_number(text, call, " refused ", KUNGTHEVI_REFUSAL(answer));
-    else if (KUNGTHEVI_TOKEN(answer) != 0)
-        print_number(text, call, " open ", KUNGTHEVI_STREAM(answer));
-    else if (KUNGTHEVI_WRITTEN(answer) == 0)
+    uint64_t call = calls->capture->number;
+    if (KUNGTHEVI_REFUSAL(calls->answer) != 0)
+        print_number(text, call, " refused ", KUNGTHEVI_REFUSAL(calls->answer));
+    else if (KUNGTHEVI_TOKEN(calls->answer) != 0)
+        print_number(text, call, " open ", KUNGTHEVI_STREAM(calls->answer));
+    else if (KUNGTHEVI_WRITTEN(calls->answer) == 0)
         print_words(text, call, " ok\n");
     else
-        print_records(text, call, room, KUNGTHEVI_WRITTEN(answer));
+        print_records(text, calls);
 }
 
-/* Prints the first line and those of each call. Returns how many calls were refused. */
-static uint64_t print_calls(struct text *text, struct capture *capture)
+static void print_counts(struct text *text, const struct calls *calls)
 {
-    uint8_t table[KUNGTHEVI_TABLE_SIZE];
-    uint8_t room[KUNGTHEVI_ROOM_SIZE];
-    uint64_t refused = 0;
-    kungthevi_fresh(table, sizeof table);
-    text_words(text, "dlpi replay\n");
-    while (text->error == 0 && capture_next(capture)) {
-        uint32_t answer = kungthevi_call(table, sizeof table, capture->record, capture->lent, room, sizeof room);
-        refused += KUNGTHEVI_REFUSAL(answer) != 0;
-        print_answer(text, capture->number, answer, room);
-    }
-    return refused;
-}
-
-/* A capture that could not be read to its end has no last line: its counts would be taken for those of the whole. */
-static enum status replay_capture(struct text *text, struct capture *capture)
-{
-    uint64_t refused = print_calls(text, capture);
-    if (capture->error != 0)
-        return STATUS_FAILED;
-    text_decimal(text, capture->number);
+    text_decimal(text, calls->capture->number);
     text_words(text, " records, ");
-    text_decimal(text, refused);
+    text_decimal(text, calls->refused);
     text_words(text, " refused\n");
-    return refused == 0 ? STATUS_SERVED : STATUS_REFUSED;
 }
 
-/* The text goes out before the capture is closed, so that a message about its end stands behind it. */
-static enum status replay_file(struct text *text, const char *name)
+static enum status replay_calls(struct text *text, struct calls *calls)
 {
-    struct capture capture;
-    if (!capture_open(&capture, name))
-        return STATUS_FAILED;
-    enum status status = replay_capture(text, &capture);
-    text_flush(text);
-    capture_close(&capture);
-    return status;
+    text_words(text, "dlpi replay\n");
+    while (text->error == 0 && calls_next(calls))
+        print_answer(text, calls);
+    if (calls_whole(calls))
+        print_counts(text, calls);
+    return calls_status(calls);
 }
 
 enum status replay(struct text *text, char *const *files, size_t count)
 {
-    enum status status = STATUS_SERVED;
-    if (count == 0)
-        return replay_file(text, "-");
-    for (size_t i = 0; i < count && text->error == 0; i++)
-        status = status_worse(status, replay_file(text, files[i]));
-    return status;
+    return captures_print(text, files, count, replay_calls);
 }

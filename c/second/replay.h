@@ -4,13 +4,9 @@
 
 #include <stdio.h>
 
-enum replay_end {
-    REPLAY_DONE,
-    REPLAY_READING_FAILED,
-    REPLAY_WRITING_FAILED
-};
+#include "ending.h"
 
 /* Starts from a fresh table. Whatever is refused, the replay is done. */
-enum replay_end second_replay(FILE *in, FILE *out);
+enum ending second_replay(FILE *in, FILE *out);
 
 #endif

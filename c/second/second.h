@@ -7,9 +7,10 @@
  * address, and a pointer may be NULL where its length is 0.
  *
  * Building, from this directory:
- *   replay program:  every .c file
+ *   the program:     every .c file
  *   self test:       every .c file except main.c, and those of test/
- *   provider alone:  every .c file except main.c and replay.c
+ *   provider alone:  every .c file except main.c and what prints a text:
+ *                    capture.c, replay.c, ledger.c and fates.c
  */
 #ifndef SECOND_H
 #define SECOND_H

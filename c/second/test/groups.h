@@ -6,6 +6,9 @@
 
 void run_examples(struct bench *b);
 void run_replay(struct bench *b);
+void run_fates(struct bench *b);
+void run_many(struct bench *b);
+void run_faults(struct bench *b);
 void run_refusals(struct bench *b);
 void run_soundness(struct bench *b);
 void run_errors(struct bench *b);

@@ -10,6 +10,9 @@ int main(void)
 
     run_examples(&bench);
     run_replay(&bench);
+    run_fates(&bench);
+    run_many(&bench);
+    run_faults(&bench);
     run_refusals(&bench);
     run_soundness(&bench);
     run_errors(&bench);

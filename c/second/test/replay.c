@@ -1,47 +1,22 @@
 /* replay.c - tests what the replay program prints, and where reading ends. */
 #include <stdint.h>
 #include <stdio.h>
-#include <stdlib.h>
 #include <string.h>
 
 #include "bench.h"
 #include "groups.h"
+#include "printing.h"
 #include "replay.h"
 
-/* Writes the input to a file, replays it and compares what is printed. */
 static void replays(struct bench *b, const uint8_t *input, size_t size,
                     const char *wanted, const char *what)
 {
-    FILE *in = tmpfile();
-    FILE *out = tmpfile();
-    size_t wanted_size = strlen(wanted);
-    char *printed = malloc(wanted_size + 2);
-    size_t printed_size;
-
-    if (in == NULL || out == NULL || printed == NULL
-        || fwrite(input, 1, size, in) != size) {
-        perror("selftest");
-        exit(1);
-    }
-    rewind(in);
-    check(b, second_replay(in, out) == REPLAY_DONE, what);
-    rewind(out);
-    printed_size = fread(printed, 1, wanted_size + 1, out);
-    printed[printed_size] = '\0';
-    if (strcmp(printed, wanted) != 0)
-        printf("wanted:\n%sprinted:\n%s", wanted, printed);
-    check(b, strcmp(printed, wanted) == 0, what);
-    free(printed);
-    fclose(in);
-    fclose(out);
+    prints(b, second_replay, input, size, wanted, what);
 }
 
 static void replays_text(struct bench *b, const char *input, const char *wanted)
 {
-    uint8_t bytes[2 * LONGEST_TEXT];
-    size_t size = parse_records(input, bytes);
-
-    replays(b, bytes, size, wanted, input);
+    prints_text(b, second_replay, input, wanted);
 }
 
 static void test_replay_examples(struct bench *b)

@@ -98,7 +98,7 @@ module _ (t : Table) (k : Sound t) where
       (each-listed (λ (c : List ℕ). tidySlot c ≡ true) (λ i. part (imageOf t) (slotBase i) 42) 0 16 (slotBytes closed)
       (λ i h. ap tidySlot (slot-part t (shaped t k) i h) ∙ slot-tidy (slot t i) (shaped t k .eight i)) (slot-tidy closed (omega arith)))
 
-  image-tidy : tidy (imageOf t) ≡ true
+  pub image-tidy : tidy (imageOf t) ≡ true
   unfolding tidy
   image-tidy = to-both _ _ (eq-eqb _ _ (image-length t (shaped t k))) (to-both _ _ (image-bytes t k) (to-both _ _ memory-tidy (to-both _ _ ppas-tidy slots-tidy)))
 

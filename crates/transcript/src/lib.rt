@@ -5,7 +5,7 @@ ghost use lib.ListN.{length, take};
 ghost use Rattle.octets.specs.Runs.{paste};
 ghost use Rattle.transcript.specs.Transcript.{isMessage, sizeOut, shownOf, pair, spaced, lineOf, allLines, refusedLine, openLine, okLine, callText, title, totals};
 
-fn is_message(kind: u8) -> bool
+pub fn is_message(kind: u8) -> bool
     ensures { λ q. ⌜ q ≡ isMessage kind ⌝ }
 {
     kind == b'P' || kind == b'C'
