@@ -1,9 +1,10 @@
 #!/usr/bin/env python3
-"""Replays every capture of captures/ by the definitions, and compares with its expected text.
+"""Replays every capture of captures/ by the definitions, and compares with its expected texts.
 
 For each capture it writes a claim that what the calls come to by `step` (crates/paper), from a fresh table and with 128
-bytes of room, prints as the text (crates/transcript), byte by byte, and has the checker compute it. The claims stand in a
-crate of their own below target/definitions/. The last line is 'N passed, M failed'; exit status 1 if a claim fails.
+bytes of room, prints as NAME.text (crates/transcript), byte by byte, and where there is a NAME.fates another, that the same
+calls print as that (crates/book, register, report); and has the checker compute them. The claims stand in a crate of their
+own below target/definitions/. The last line is 'N passed, M failed'; exit status 1 if a claim fails.
 """
 import importlib.util
 import pathlib
@@ -13,7 +14,7 @@ import sys
 
 TOP = pathlib.Path(__file__).resolve().parent.parent
 HERE = TOP / "target/definitions"
-BELOW = ["ledger", "octets", "paper", "text", "transcript"]
+BELOW = ["ledger", "octets", "paper", "text", "transcript", "book", "register", "report"]
 
 CLAIMS = """\
 -- What the definitions come to on the captures.
@@ -30,6 +31,10 @@ use Rattle.paper.specs.Base.{Table, fresh}
 use Rattle.paper.specs.RecordsOut.{allBytes}
 use Rattle.paper.specs.Refusals.{Outcome}
 use Rattle.transcript.specs.Transcript.{title, totals}
+use Rattle.book.specs.declared.Line.{Line}
+use Rattle.book.specs.Lines.{linesOf as saidBy}
+use Rattle.register.specs.Register.{blank}
+use Rattle.report.specs.Report.{title as heading, closing}
 USES
 
 -- the record lent, and what must be printed of its call
@@ -48,6 +53,14 @@ replays t n m [] end = sameBytes (totals n m) end
 replays t n m (call r w ∷ l) end =
     both (sameBytes (printed (n + 1) (step t r 128)) w)
     (replays (step t r 128 .table) (n + 1) (m + oneIf (ltb 0 (step t r 128 .refusal))) l end)
+
+-- what the records of calls say, from a table on
+abbrev said : Table → List (List ℕ) → List Line
+said t [] = []
+said t (r ∷ l) = saidBy r (step t r 128 .opened) (allBytes (step t r 128 .records)) ++ said (step t r 128 .table) l
+
+abbrev told : List Line → List ℕ
+told ys = heading ++ allText ys blank ++ closing (enteredAll ys blank)
 """
 
 
@@ -97,14 +110,27 @@ def antt_bytes(run):
     return f"(({listed}) ++ replicate {len(run) - len(front)} 0)"
 
 
-def claim(name):
-    """The claim of a capture, and nothing where the text is not one of as many calls."""
+def text_claim(name):
+    """That the capture prints its text; nothing where the text is not one of as many calls."""
     records, (first, texts, last) = list(lent(assembled(name))), expected(name)
     if len(records) != len(texts):
         return ""
     calls = " ∷ ".join([f"call {antt_bytes(r)} {antt_bytes(w)}" for r, w in zip(records, texts)] + ["[]"])
-    claimed = f"both (sameBytes title {antt_bytes(first)}) (replays fresh 0 0 ({calls}) {antt_bytes(last)})"
-    return f"\n{name} : {claimed} ≡ true\nunfolding UNFOLDS\n{name} = refl\n"
+    return f"both (sameBytes title {antt_bytes(first)}) (replays fresh 0 0 ({calls}) {antt_bytes(last)})"
+
+
+def fates_claim(name):
+    """That the capture prints its fates."""
+    records = " ∷ ".join([antt_bytes(record) for record in lent(assembled(name))] + ["[]"])
+    return f"sameBytes (told (said fresh ({records}))) {antt_bytes((TOP / 'captures' / (name + '.fates')).read_bytes())}"
+
+
+def claims_by_file():
+    """Each expected text, and what is claimed for it."""
+    for path in sorted((TOP / "captures").glob("*.records")):
+        yield path.stem + "-text", text_claim(path.stem)
+        if path.with_suffix(".fates").exists():
+            yield path.stem + "-fates", fates_claim(path.stem)
 
 
 def shut_names():
@@ -132,20 +158,21 @@ def write_crate(claims):
     shut = list(shut_names())
     uses = "\n".join(f"use Rattle.{crate}.specs.{module}.{{{', '.join(names)}}}" for crate, module, names in shut)
     opened = " ".join(["_⇒_∣_"] + [name for _, _, names in shut for name in names])
-    text = CLAIMS.replace("USES", uses) + "".join(claims).replace("UNFOLDS", opened)
+    stated = [f"\n{name} : {claim} ≡ true\nunfolding {opened}\n{name} = refl\n" for name, claim in claims.items() if claim]
+    text = CLAIMS.replace("USES", uses) + "".join(stated)
     (crate / "proofs/Claims.antt").write_text(text)
 
 
 def main():
-    names = sorted(path.stem for path in (TOP / "captures").glob("*.records"))
-    claims = {name: claim(name) for name in names}
-    write_crate(claims.values())
+    claims = dict(claims_by_file())
+    names = list(claims)
+    write_crate(claims)
     checked = subprocess.run(["rt", "check", "replayed"], cwd=HERE, capture_output=True, text=True)
     output = checked.stdout + checked.stderr
     refused = set(re.findall(r"Claims\.antt:\d+:\d+: error: `([^`]+)`", output))
     failed = [name for name in names if not claims[name] or name in refused]
     for name in failed:
-        print(f"{name}: the definitions do not print its text")
+        print(f"{name}: the definitions do not print it")
     if checked.returncode != 0 and not refused:
         print(f"{output[-2000:]}the definitions could not be checked")
         failed = names

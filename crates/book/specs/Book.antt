@@ -1,6 +1,6 @@
 -- The fates: of each opening of a stream its connection indications, each with exactly one fate, as the lines of a history
 -- tell them; and the counts that the lines give by themselves.
-use Prim.Native.Nat.{ℕ, _+_}
+use Prim.Native.Nat.{ℕ, zero, suc, _+_}
 use mathlib.Core.Bool.{Bool, true, false}
 use mathlib.Core.List.{List, [], _∷_, _++_}
 use lib.ListN.{length}
@@ -120,3 +120,9 @@ grantLine s Nothing g = g
 abbrev pub grantBy : ℕ → List Line → ℕ → ℕ
 grantBy s [] g = g
 grantBy s (y ∷ ys) g = grantBy s ys (grantLine s y g)
+
+-- ---- over the streams 0 to n - 1
+
+unfoldable pub overStreams : ℕ → (ℕ → ℕ) → ℕ
+overStreams zero f = 0
+overStreams (suc n) f = overStreams n f + f n

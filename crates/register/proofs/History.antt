@@ -13,13 +13,13 @@ use Rattle.ledger.proofs.Tallies.{both-of, one-most, chosen}
 use Rattle.book.specs.declared.End.{End}
 use Rattle.book.specs.declared.Line.{Line}
 use Rattle.book.specs.declared.Line.the-variants.{Began, Came, Went, Given, Nothing}
-use Rattle.book.specs.Book.{Opening, openOf, openCount, mark, noted, newest, onNewest, post, posts, countOf, bump, tallyLine, tallies}
+use Rattle.book.specs.Book.{Opening, openOf, openCount, mark, noted, newest, onNewest, post, posts, countOf, bump, tallyLine, tallies, overStreams}
 use Rattle.book.proofs.Sums.{pick-to, of-asks}
 use Rattle.book.proofs.Shades.{shade, fair, fairs, openings, rooted, rooteds, open-post}
 use Rattle.register.specs.Register.{blank, begun, rung, gone, entered, enteredAll}
 use Rattle.register.proofs.Cells.{zeros}
 use Rattle.register.proofs.Pages.{onPage, inAll, Page, page-aside, more-all, begun-all, end-count, begun-page, opening-there, rung-outside, rung-page, gone-outside, gone-page}
-use Rattle.register.proofs.Whole.{overStreams, over-none, over-same, over-one, Change, change-counted, change-begun}
+use Rattle.register.proofs.Whole.{over-none, over-same, over-one, Change, change-counted, change-begun}
 
 -- ---- the register against the book
 

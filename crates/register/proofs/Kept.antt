@@ -11,14 +11,13 @@ use Rattle.ledger.proofs.Tallies.{both-of, to-both}
 use Rattle.book.specs.declared.End.{End}
 use Rattle.book.specs.declared.End.the-variants.{Accepted}
 use Rattle.book.specs.declared.Line.{Line}
-use Rattle.book.specs.Book.{met, openOf, openCount, mark, newest, posts, tallies}
+use Rattle.book.specs.Book.{met, openOf, openCount, mark, newest, posts, tallies, overStreams}
 use Rattle.book.proofs.Shades.{shade, fair, fairs, openings, rooted, rooteds}
 use Rattle.register.specs.Register.{blank, placeOf, openOn, firstFree, enteredAll}
 use Rattle.register.proofs.Cells.{cell}
 use Rattle.register.proofs.Places.{placesFrom, asked, spot, places-length, Ended, ended}
 use Rattle.register.proofs.Row.{narrower, free-at}
 use Rattle.register.proofs.Pages.{place-at}
-use Rattle.register.proofs.Whole.{overStreams}
 use Rattle.register.proofs.History.{Kept, kept-blank, kept-lines}
 
 -- ---- the register of a history whose lines a provider may write, of fewer lines than 64 bits count

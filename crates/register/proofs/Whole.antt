@@ -7,16 +7,12 @@ use lib.ListN.{length, getD}
 use lib.Dec.{eqb}
 use native.Mathlib.Omega.{arith}
 use Rattle.ledger.specs.Tally.{oneIf}
+use Rattle.book.specs.Book.{overStreams}
 use Rattle.register.specs.Register.{counting, cleared, begun}
 use Rattle.register.proofs.Cells.{by-same, by-order, counting-length, counting-other, counting-table}
 use Rattle.register.proofs.Pages.{Outside, outside-cleared}
 
 -- ---- a sum over the streams
-
--- the sum of a quantity over the streams 0 to n - 1
-unfoldable pub overStreams : ℕ → (ℕ → ℕ) → ℕ
-overStreams zero f = 0
-overStreams (suc n) f = overStreams n f + f n
 
 pub over-none : (n : ℕ) → overStreams n (λ s. 0) ≡ 0
 unfolding overStreams

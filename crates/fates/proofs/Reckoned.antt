@@ -1,0 +1,119 @@
+-- What fates prints from its register is what the history says: the counts are those of `fates` of the history.
+use Prim.Native.Nat.{ℕ, zero, suc, _+_, _*_, _<_}
+use mathlib.Core.Path.{_≡_, refl, sym, ap, _∙_}
+use mathlib.Core.Bool.{true}
+use mathlib.Core.List.{List, [], _∷_, _++_, append-assoc, append-nil}
+use lib.ListN.{length, getD}
+use native.Mathlib.Omega.{arith}
+use Rattle.ledger.specs.Tally.{has, sumOf, firstOf}
+use Rattle.paper.specs.Base.{fresh}
+use Rattle.book.specs.declared.End.{End}
+use Rattle.book.specs.declared.Line.{Line}
+use Rattle.book.specs.Book.{Opening, openOf, openCount, leftOpen, newest, tallies, overStreams}
+use Rattle.book.proofs.Shades.{fairs, rooteds}
+use Rattle.register.specs.Register.{placeOf, openOn, enteredAll, blank}
+use Rattle.register.proofs.Kept.{kept-openings, kept-counts, kept-open, kept-all-openings, kept-all-counts, found-place, found-number}
+use Rattle.register.proofs.Places.{asked}
+use Rattle.register.proofs.Whole.{over-same}
+use Rattle.report.specs.Report.{spaced, numbers, wordOf, wordCall, wordOpening, wordTotal, callLine, openingLine, openOnAll, totalLine}
+use Rattle.promises.specs.History.{Answered, history, lines, fates, openBy, indicated, accepted, denied, withdrawn, dropped}
+use Rattle.promises.proofs.Agreement.{agrees, fair-history}
+use Rattle.fates.specs.Told.{Told}
+use Rattle.fates.specs.Shown.{openingShown, callShown, totalOf, totalShown}
+
+-- ---- numbers of the register, one behind the other
+
+-- behind p, the cell c holds v, and the others go on from d
+next : (p : List ℕ) (k c d v : ℕ) (l : List ℕ) → getD l c 0 ≡ v → c + 1 ≡ d → p ++ numbers (suc k) c l ≡ p ++ spaced v ++ numbers k d l
+unfolding numbers
+next p k c d v l e f =
+    sym (append-assoc p (spaced (getD l c 0)) (numbers k (c + 1) l))
+    ∙ ap (λ (n : ℕ). p ++ spaced n ++ numbers k (c + 1) l) e
+    ∙ ap (λ (d : ℕ). p ++ spaced v ++ numbers k d l) f
+
+one-number : (p : List ℕ) (c v : ℕ) (l : List ℕ) → getD l c 0 ≡ v → p ++ numbers 1 c l ≡ p ++ spaced v
+unfolding numbers
+one-number p c v l e = next p 0 c (c + 1) v l e refl ∙ append-nil (p ++ spaced v)
+
+two-numbers : (p : List ℕ) (c v w : ℕ) (l : List ℕ) → getD l c 0 ≡ v → getD l (c + 1) 0 ≡ w → p ++ numbers 2 c l ≡ p ++ spaced v ++ spaced w
+two-numbers p c v w l e f = next p 1 c (c + 1) v l e refl ∙ one-number (p ++ spaced v) (c + 1) w l f
+
+-- six, as they stand on a page
+six-numbers : (p : List ℕ) (c v : ℕ) (f : ℕ → ℕ) (l : List ℕ) → getD l c 0 ≡ v → ((k : ℕ) → k < 5 → getD l (c + 1 + k) 0 ≡ f k)
+    → p ++ numbers 6 c l ≡ p ++ spaced v ++ spaced (f 0) ++ spaced (f 1) ++ spaced (f 2) ++ spaced (f 3) ++ spaced (f 4)
+six-numbers p c v f l e g =
+    next p 5 c (c + 1 + 0) v l e (omega arith)
+    ∙ next (p ++ spaced v) 4 (c + 1 + 0) (c + 1 + 1) (f 0) l (g 0 (omega arith)) (omega arith)
+    ∙ next (p ++ spaced v ++ spaced (f 0)) 3 (c + 1 + 1) (c + 1 + 2) (f 1) l (g 1 (omega arith)) (omega arith)
+    ∙ next (p ++ spaced v ++ spaced (f 0) ++ spaced (f 1)) 2 (c + 1 + 2) (c + 1 + 3) (f 2) l (g 2 (omega arith)) (omega arith)
+    ∙ next (p ++ spaced v ++ spaced (f 0) ++ spaced (f 1) ++ spaced (f 2)) 1 (c + 1 + 3) (c + 1 + 4) (f 3) l (g 3 (omega arith)) (omega arith)
+    ∙ one-number (p ++ spaced v ++ spaced (f 0) ++ spaced (f 1) ++ spaced (f 2) ++ spaced (f 3)) (c + 1 + 4) (f 4) l (g 4 (omega arith))
+
+-- ---- the lines, of a history of fewer lines than 64 bits count
+
+newest-first : (b : List Opening) → getD b 0 [] ≡ newest b
+newest-first [] = refl
+newest-first (o ∷ b) = refl
+
+all-open : (b : List Opening) → leftOpen b ≡ 0 → sumOf openCount b ≡ openCount (newest b)
+all-open [] z = refl
+all-open (o ∷ b) z = omega arith
+
+-- the sum as the program takes it, from stream 0 on
+over-from : (l : List ℕ) (n k i : ℕ) → i + k ≡ n → overStreams i (λ s. openOn s l) + openOnAll k i l ≡ overStreams n (λ s. openOn s l)
+unfolding openOnAll overStreams
+over-from l n zero i e = let z : i ≡ n = omega arith in let y : overStreams i (λ s. openOn s l) ≡ overStreams n (λ s. openOn s l) = ap (λ (i : ℕ). overStreams i (λ s. openOn s l)) z in omega arith
+over-from l n (suc k) i e =
+    let q : i + 1 ≡ suc i = omega arith in
+    let z : overStreams (i + 1) (λ s. openOn s l) ≡ overStreams i (λ s. openOn s l) + openOn i l = ap (λ (i : ℕ). overStreams i (λ s. openOn s l)) q in
+    omega (arith, over-from l n k (i + 1) (omega arith), z)
+
+over-open : (l : List ℕ) (n : ℕ) → openOnAll n 0 l ≡ overStreams n (λ s. openOn s l)
+unfolding overStreams
+over-open l n = let z : 0 + openOnAll n 0 l ≡ overStreams n (λ s. openOn s l) = over-from l n n 0 (omega arith) in omega arith
+
+module _ (img register : List ℕ) (w : Told img register) (short : length (lines (history fresh (w .calls))) < 18446744073709551615) where
+  abbrev pub h : List Answered
+  h = history fresh (w .calls)
+
+  fine : (s : ℕ) → s < 16 → (fairs s (lines (history fresh (w .calls))) [] ≡ true) × (rooteds s (lines (history fresh (w .calls))) 0 ≡ true)
+  fine s m = fair-history s (w .calls)
+
+  open-is : (s : ℕ) → s < 16 → openOn s register ≡ openCount (newest (fates s h))
+  open-is s m = ap (openOn s) (w .entered) ∙ kept-open (lines h) fine short s m
+
+  -- The line of an opening shows the counts of the history.
+  pub opening-told : (s : ℕ) → s < 16 → openingLine s register ≡ openingShown s h
+  unfolding openingShown
+  opening-told s m =
+      ap (λ (l : List ℕ). l ++ spaced (openOn s register) ++ (10 ∷ []))
+      (six-numbers (wordOpening ++ spaced s) (s * 24) (length (fates s h)) (λ k. getD (tallies k s (lines h) []) 0 0) register
+        (ap (λ (l : List ℕ). getD l (s * 24) 0) (w .entered) ∙ kept-openings (lines h) fine short s m)
+        (λ k b. ap (λ (l : List ℕ). getD l (s * 24 + 1 + k) 0) (w .entered) ∙ kept-counts (lines h) fine short s k m b))
+      ∙ ap (λ (n : ℕ). wordOpening ++ spaced s ++ spaced (length (fates s h)) ++ spaced (indicated s 0 h) ++ spaced (accepted s 0 h) ++ spaced (denied s 0 h) ++ spaced (withdrawn s 0 h) ++ spaced (dropped s 0 h) ++ spaced n ++ (10 ∷ []))
+        (open-is s m ∙ ap openCount (sym (newest-first (fates s h))))
+
+  -- The line of a call that ends shows the place and the number of that very call.
+  pub call-told : (s n : ℕ) (e : End) → s < 16 → has n (openBy s h) ≡ true → callLine s (placeOf s n register) (wordOf e) register ≡ callShown s n e h
+  unfolding callShown
+  call-told s n e m f =
+      ap (λ (l : List ℕ). l ++ numbers 2 (placeOf s n register) register ++ wordOf e ++ (10 ∷ []))
+      (one-number (wordCall ++ spaced s) (s * 24) (length (fates s h)) register (ap (λ (l : List ℕ). getD l (s * 24) 0) (w .entered) ∙ kept-openings (lines h) fine short s m))
+      ∙ ap (λ (l : List ℕ). l ++ wordOf e ++ (10 ∷ []))
+      (two-numbers (wordCall ++ spaced s ++ spaced (length (fates s h))) (placeOf s n register) (suc (firstOf (asked n) (newest (fates s h)))) n register
+        (ap (λ (l : List ℕ). getD l (placeOf s n l) 0) (w .entered) ∙ found-place (lines h) fine short s n m f)
+        (ap (λ (l : List ℕ). getD l (placeOf s n l + 1) 0) (w .entered) ∙ found-number (lines h) fine short s n m f))
+
+  open-all : openOnAll 16 0 register ≡ overStreams 16 (λ s. sumOf openCount (fates s h))
+  open-all =
+      over-open register 16 ∙ over-same 16 (λ s. sumOf openCount (fates s h)) (λ s. openOn s register) (λ s m. open-is s m ∙ sym (all-open (fates s h) (agrees s (w .calls) .left)))
+
+  -- The last line shows the counts over all openings of all streams.
+  pub total-told : totalLine register ≡ totalShown h
+  unfolding totalShown
+  total-told =
+      ap (λ (l : List ℕ). l ++ spaced (openOnAll 16 0 register) ++ (10 ∷ []))
+      (six-numbers wordTotal 384 (overStreams 16 (λ s. length (fates s h))) (λ k. totalOf k h) register
+        (ap (λ (l : List ℕ). getD l 384 0) (w .entered) ∙ kept-all-openings (lines h) fine short)
+        (λ k b. ap (λ (l : List ℕ). getD l (385 + k) 0) (w .entered) ∙ kept-all-counts (lines h) fine short k b))
+      ∙ ap (λ (n : ℕ). wordTotal ++ spaced (overStreams 16 (λ s. length (fates s h))) ++ spaced (totalOf 0 h) ++ spaced (totalOf 1 h) ++ spaced (totalOf 2 h) ++ spaced (totalOf 3 h) ++ spaced (totalOf 4 h) ++ spaced n ++ (10 ∷ [])) open-all
