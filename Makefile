@@ -7,6 +7,22 @@ CFLAGS = -std=c11 -O2 -Wall -Wextra -Wpedantic -Werror
 CXXFLAGS = -std=c++11 -O2 -Wall -Wextra -Wpedantic -Werror
 SANITIZE = -std=c11 -O1 -g -Wall -Wextra -Wpedantic -Werror -fsanitize=address,undefined -fno-sanitize-recover=all
 
+# The Rattle kit compiles for x86-64 alone. So on any other machine the C programs that link its libraries are compiled for
+# x86-64 too, and what stands in the place of each, and of the kit's own programs, is a script that runs it under an emulator.
+# AddressSanitizer doesn't run there. C programs that link none of the libraries are the machine's own everywhere.
+MACHINE = $(shell uname -m)
+ifeq ($(MACHINE),x86_64)
+EMULATED =
+LIBRARY_CC = $(CC)
+LIBRARY_CXX = $(CXX)
+LIBRARY_SANITIZE = $(SANITIZE)
+else
+EMULATED = yes
+LIBRARY_CC = tools/cross gcc
+LIBRARY_CXX = tools/cross g++
+LIBRARY_SANITIZE = $(SANITIZE) -fno-sanitize=address
+endif
+
 # how many calls are compared, and from which capture on
 N = 1000000
 SEED = 1
@@ -14,8 +30,8 @@ SEED = 1
 RATTLE = crates.txt $(shell find crates -name '*.rt' -o -name '*.antt')
 LIBRARY = target/lib/libkungthevi.a
 INNER = target/staticlib/libinner.a
-REPLAY = target/bin/replay
-FATES = target/bin/fates
+REPLAY = target/run/replay
+FATES = target/run/fates
 
 SECOND = $(filter-out c/second/main.c,$(wildcard c/second/*.c))
 SELFTEST = $(wildcard c/second/test/*.c)
@@ -27,7 +43,7 @@ BENCH = $(wildcard c/bench/*.c)
 HEADERS = $(wildcard c/*.h c/*/*.h c/*/*/*.h)
 CAPTURES = $(patsubst captures/%.records,target/captures/%,$(wildcard captures/*.records))
 
-.PHONY: all check demo replay lib c sanitized example captures texts alike definitions entries harness selftest coverage \
+.PHONY: all check demo replay run lib c sanitized example captures texts alike definitions entries harness selftest coverage \
 	compare bench instructions paper clean
 
 all: c captures
@@ -65,9 +81,21 @@ target/lib/kungthevi.h: c/kungthevi.h
 	@mkdir -p $(@D)
 	cp $< $@
 
-$(REPLAY) $(FATES): target/bin/%: $(RATTLE)
+target/bin/replay target/bin/fates: target/bin/%: $(RATTLE)
 	@mkdir -p $(@D)
 	rt check $* 2>&1 | $(PROVED)
+
+# what is run, on any machine: target/run/NAME for the kit's program target/bin/NAME
+run: $(REPLAY) $(FATES)
+
+target/run/%: target/bin/%
+	@mkdir -p $(@D)
+ifdef EMULATED
+	ln -sf ../bin/$* $@.x86-64
+	install tools/emulated $@
+else
+	ln -sf ../bin/$* $@
+endif
 
 $(INNER): $(RATTLE)
 	@mkdir -p $(@D)
@@ -96,27 +124,30 @@ target/c/coverage: $(GENERATE) c/generate/coverage.c $(SECOND) $(HEADERS)
 
 target/c/kungthevi: $(HARNESS) $(LIBRARY) $(HEADERS)
 	@mkdir -p $(@D)
-	$(CC) $(CFLAGS) -o $@ $(HARNESS) $(LIBRARY)
+	$(LIBRARY_CC) $(CFLAGS) -o $@ $(HARNESS) $(LIBRARY)
 
 target/c/entries: $(ENTRIES) $(LIBRARY) $(HEADERS)
 	@mkdir -p $(@D)
-	$(CC) $(CFLAGS) -o $@ $(ENTRIES) $(LIBRARY)
+	$(LIBRARY_CC) $(CFLAGS) -o $@ $(ENTRIES) $(LIBRARY)
 
 target/c/include: c/entries/include.cc $(LIBRARY) $(HEADERS)
 	@mkdir -p $(@D)
-	$(CXX) $(CXXFLAGS) -o $@ c/entries/include.cc $(LIBRARY)
+	$(LIBRARY_CXX) $(CXXFLAGS) -o $@ c/entries/include.cc $(LIBRARY)
 
 target/c/compare: $(COMPARE) $(GENERATE) $(SECOND) $(LIBRARY) $(HEADERS)
 	@mkdir -p $(@D)
-	$(CC) $(CFLAGS) -Ic/second -o $@ $(COMPARE) $(GENERATE) $(SECOND) $(LIBRARY)
+	$(LIBRARY_CC) $(CFLAGS) -Ic/second -o $@ $(COMPARE) $(GENERATE) $(SECOND) $(LIBRARY)
 
 target/c/bench: $(BENCH) $(GENERATE) $(SECOND) $(LIBRARY) $(INNER) $(HEADERS)
 	@mkdir -p $(@D)
-	$(CC) $(CFLAGS) -Ic/second -o $@ $(BENCH) $(GENERATE) $(SECOND) $(LIBRARY) $(INNER)
+	$(LIBRARY_CC) $(CFLAGS) -Ic/second -o $@ $(BENCH) $(GENERATE) $(SECOND) $(LIBRARY) $(INNER)
 
 # the same under AddressSanitizer and UndefinedBehaviorSanitizer
 sanitized: target/c/sanitized/second target/c/sanitized/selftest target/c/sanitized/coverage target/c/sanitized/kungthevi \
 	target/c/sanitized/entries target/c/sanitized/compare
+ifdef EMULATED
+	@echo 'skipped: AddressSanitizer in kungthevi, entries and compare, as it does not run under the emulator'
+endif
 
 target/c/sanitized/second: $(SECOND) c/second/main.c $(HEADERS)
 	@mkdir -p $(@D)
@@ -132,21 +163,21 @@ target/c/sanitized/coverage: $(GENERATE) c/generate/coverage.c $(SECOND) $(HEADE
 
 target/c/sanitized/kungthevi: $(HARNESS) $(LIBRARY) $(HEADERS)
 	@mkdir -p $(@D)
-	$(CC) $(SANITIZE) -o $@ $(HARNESS) $(LIBRARY)
+	$(LIBRARY_CC) $(LIBRARY_SANITIZE) -o $@ $(HARNESS) $(LIBRARY)
 
 target/c/sanitized/entries: $(ENTRIES) $(LIBRARY) $(HEADERS)
 	@mkdir -p $(@D)
-	$(CC) $(SANITIZE) -o $@ $(ENTRIES) $(LIBRARY)
+	$(LIBRARY_CC) $(LIBRARY_SANITIZE) -o $@ $(ENTRIES) $(LIBRARY)
 
 target/c/sanitized/compare: $(COMPARE) $(GENERATE) $(SECOND) $(LIBRARY) $(HEADERS)
 	@mkdir -p $(@D)
-	$(CC) $(SANITIZE) -Ic/second -o $@ $(COMPARE) $(GENERATE) $(SECOND) $(LIBRARY)
+	$(LIBRARY_CC) $(LIBRARY_SANITIZE) -Ic/second -o $@ $(COMPARE) $(GENERATE) $(SECOND) $(LIBRARY)
 
 # the example in the header, as it stands there, against the folder that `make lib` leaves
 example: lib
 	@mkdir -p target/c
 	sed -n '/^ \* Example/,/^ \*\//s/^ \*     //p' c/kungthevi.h > target/c/example.c
-	$(CC) $(CFLAGS) -Itarget/lib -o target/c/example target/c/example.c $(LIBRARY)
+	$(LIBRARY_CC) $(CFLAGS) -Itarget/lib -o target/c/example target/c/example.c $(LIBRARY)
 	target/c/example
 
 # ---- captures
@@ -166,9 +197,10 @@ texts: $(REPLAY) $(FATES) target/c/second target/c/kungthevi captures
 	tools/texts fates target/c/second fates
 	tools/texts fates target/c/kungthevi fates
 
-# 100 generated captures of 400 calls print the same two texts by all programs
+# generated captures print the same text by all three programs: 100 of 400 calls by replay, 1,000 of 200 by fates
 alike: $(REPLAY) $(FATES) target/c/kungthevi target/c/second target/c/generate
-	tools/alike 100 400
+	tools/alike replay 100 400
+	tools/alike fates 1000 200
 
 # the named captures by the definitions
 definitions:
@@ -197,6 +229,11 @@ compare: target/c/compare
 	@mkdir -p target/differences
 	target/c/compare -d target/differences $(N) $(SEED)
 
+ifdef EMULATED
+bench instructions:
+	@echo 'make $@: nothing to measure on $(MACHINE): the library is for x86-64, and times under an emulator say nothing' >&2
+	@exit 1
+else
 # calls a second and MB/s beside the second program's
 bench: target/c/bench target/c/second target/c/kungthevi $(REPLAY)
 	@mkdir -p target/bench
@@ -206,6 +243,7 @@ bench: target/c/bench target/c/second target/c/kungthevi $(REPLAY)
 instructions: target/c/bench
 	@mkdir -p target/bench
 	c/bench/instructions target/c/bench target/bench
+endif
 
 # each sentence of the rule paper has its definition
 paper:
