@@ -13,7 +13,7 @@ use Rattle.octets.specs.Numbers.{be32At}
 use Rattle.octets.specs.Runs.{part, allZero}
 use Rattle.octets.specs.Blocks.{flat}
 use Rattle.octets.proofs.Laws.{flat-length}
-use Rattle.paper.specs.Base.{numberOf, Slot, closed, Table, slot, ppaNumbers, noPpa}
+use Rattle.paper.specs.Base.{numberOf, Slot, closed, Table, slot, ppaNumbers, noPpa, fresh}
 use Rattle.paper.specs.Correlations.{occurrences}
 use Rattle.paper.specs.Sound.{sound}
 use Rattle.paper.specs.Step.{step}
@@ -30,7 +30,7 @@ use Rattle.outcomes.specs.Leaving.{Left, leaving, callOf}
 use Rattle.promises.specs.Soundness.{Bytes, Sound}
 use Rattle.promises.proofs.Lent.{shaped, image-bytes}
 use Rattle.promises.proofs.NextNumber.{counter-small}
-use Rattle.promises.proofs.Steps.{keeps, part-bytes, no-bytes}
+use Rattle.promises.proofs.Steps.{keeps, fresh-sound, part-bytes, no-bytes}
 use Rattle.promises.proofs.Tested.{sound-test, sound-tested}
 
 -- ---- runs of zeros
@@ -153,6 +153,10 @@ lent-sound img s =
     let h : (tidy img ≡ true) × (sound (tableOf img) ≡ true) = both-of _ _ s in
     let q : Shaped (tableOf img) = shaped-table img (h .0) in
     sound-tested (tableOf img) (q .sixteen) (counter-small img (h .0)) (λ j. (q .macs j, macs-tidy img (h .0) j)) (calls-small img (h .0)) (ppas-small img (h .0)) (h .1)
+
+-- A fresh table as it is lent is sound.
+pub fresh-image : soundImage (imageOf fresh) ≡ true
+fresh-image = image-sound fresh fresh-sound
 
 -- Every call keeps a sound table sound: as the caller lends it, and as it is left.
 pub call-keeps : (img r room : List ℕ) → soundImage img ≡ true → Bytes r → soundImage (callOf img r room .image) ≡ true

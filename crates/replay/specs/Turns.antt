@@ -1,23 +1,13 @@
--- The turns of the replay program: what one call makes of them, and what holds between two.
-use Prim.Native.Nat.{ℕ, _+_, _-_, _≤_}
-use mathlib.Core.Path.{_≡_}
-use mathlib.Core.Bool.{Bool, false, not}
+-- The turns of the replay program.
+use Prim.Native.Nat.{ℕ, _+_}
 use mathlib.Core.List.{List}
-use lib.Dec.{eqb, ltb}
-use lib.ListN.{length, take}
-use Rattle.ledger.specs.Choice.{both, either, _⇒_∣_}
-use Rattle.ledger.specs.Tally.{oneIf}
-use Rattle.octets.specs.Runs.{part, paste}
-use Rattle.paper.specs.RecordsIn.{recordSize}
+use lib.ListN.{length}
+use Rattle.ledger.specs.Choice.{_⇒_∣_}
+use Rattle.octets.specs.Runs.{paste}
 use Rattle.outcomes.specs.Leaving.{Left}
+use Rattle.turns.specs.Turns.{unread, waits, isOver, stopping, afterCall}
+use Rattle.turns.specs.declared.Turn.{Turn}
 use Rattle.replay.specs.Printed.{replayed, printed, isRefused}
-use Rattle.replay.specs.declared.Turn.{Turn}
-
--- ---- a call
-
--- the bytes of the input that are not read yet
-abbrev pub unread : List ℕ → Turn → List ℕ
-unread input t = part input (t .start) (t .end - t .start)
 
 -- The call has the next number and is lent what is not read yet; its text goes behind what is printed already.
 abbrev pub callOn : List ℕ → List ℕ → Turn → Left
@@ -26,78 +16,14 @@ callOn table input t = replayed table (unread input t)
 abbrev pub textOn : List ℕ → List ℕ → Turn → List ℕ
 textOn table input t = printed (t .calls + 1) (callOn table input t)
 
--- Reading goes on behind the record, or ends there.
-abbrev pub afterCall : List ℕ → List ℕ → Turn → Turn
-afterCall table input t = record {
-  start = t .start + recordSize (unread input t);
-  end = t .end;
-  ended = t .ended;
-  filled = t .filled + length (textOn table input t);
-  calls = t .calls + 1;
-  refused = t .refused + oneIf (isRefused (callOn table input t));
-  going = ltb 0 (recordSize (unread input t));
-  failed = t .failed;
-}
-
--- ---- a turn, once there is input and room for output
-
--- A record may be cut, and more bytes may come.
-abbrev pub waits : Turn → Bool
-waits t = both (ltb (t .end - t .start) 99) (not (t .ended))
-
--- No bytes are left, or no numbers to count calls with.
-abbrev pub isOver : Turn → Bool
-isOver t = either (eqb (t .end - t .start) 0) (eqb (t .calls) 18446744073709551615)
-
-abbrev pub stopping : Turn → Turn
-stopping t = record {
-  start = t .start;
-  end = t .end;
-  ended = t .ended;
-  filled = t .filled;
-  calls = t .calls;
-  refused = t .refused;
-  going = false;
-  failed = t .failed;
-}
+abbrev pub called : List ℕ → List ℕ → Turn → Turn
+called table input t = afterCall input (t .filled + length (textOn table input t)) (isRefused (callOn table input t)) t
 
 unfoldable pub turnAfter : List ℕ → List ℕ → Turn → Turn
-turnAfter table input t = waits t ⇒ t ∣ isOver t ⇒ stopping t ∣ afterCall table input t
+turnAfter table input t = waits t ⇒ t ∣ isOver t ⇒ stopping t ∣ called table input t
 
 unfoldable pub tableAfter : List ℕ → List ℕ → Turn → List ℕ
 tableAfter table input t = waits t ⇒ table ∣ isOver t ⇒ table ∣ callOn table input t .image
 
 unfoldable pub outputAfter : List ℕ → List ℕ → List ℕ → Turn → List ℕ
 outputAfter table input output t = waits t ⇒ output ∣ isOver t ⇒ output ∣ paste output (t .filled) (textOn table input t)
-
--- ---- reading on and writing out
-
--- Reading on loses nothing: what was not read yet stands before what came.
-pub record Fed (input : List ℕ) (t : Turn) (input' : List ℕ) (t' : Turn) : Type 0 where
-  pub kept : take (t .end - t .start) (unread input' t') ≡ unread input t
-  pub filled : t' .filled ≡ t .filled
-  pub calls : t' .calls ≡ t .calls
-  pub refused : t' .refused ≡ t .refused
-
--- Writing out changes nothing of what is read and counted.
-pub record Drained (t t' : Turn) : Type 0 where
-  pub start : t' .start ≡ t .start
-  pub end : t' .end ≡ t .end
-  pub ended : t' .ended ≡ t .ended
-  pub calls : t' .calls ≡ t .calls
-  pub refused : t' .refused ≡ t .refused
-
--- ---- what holds between two turns: where the program stands in its buffers of 65,536 bytes
-
-pub record Fine (t : Turn) : Type 0 where
-  pub order : t .start ≤ t .end
-  pub within : t .end ≤ 65536
-  pub fits : t .filled ≤ 65536
-  pub counted : t .refused ≤ t .calls
-
--- with room for what a call prints
-pub record Ready (t : Turn) : Type 0 where
-  pub order : t .start ≤ t .end
-  pub within : t .end ≤ 65536
-  pub fits : t .filled ≤ 45000
-  pub counted : t .refused ≤ t .calls

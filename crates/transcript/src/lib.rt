@@ -12,7 +12,7 @@ pub fn is_message(kind: u8) -> bool
 }
 
 // The size of a record out, by its kind.
-fn size_out(kind: u8) -> usize
+pub fn size_out(kind: u8) -> usize
     ensures { λ n. ⌜ n ≡ sizeOut kind ⌝ }
 {
     if is_message(kind) {
@@ -117,7 +117,7 @@ fn put_ok(out: &mut [u8], at: usize, n: u64) -> usize
 }
 
 // The bytes at the start of the room, as many as are there.
-fn start_of<'a>(room: &'a [u8], n: usize) -> &'a [u8]
+pub fn start_of<'a>(room: &'a [u8], n: usize) -> &'a [u8]
     ensures { λ r. ⌜ now r ≡ take n (now (room .entry)) ⌝ }
 {
     let size = room.len();

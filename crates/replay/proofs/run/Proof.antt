@@ -1,15 +1,17 @@
 -- `replay::run` meets its contract: each turn leaves what the next one asks, and one fewer is left.
 use native.Mathlib.Omega.{arith}
 use mathlib.Core.Path.{_≡_}
+use mathlib.Core.Bool.{true}
 use lib.ListN.{length}
 use borrow.Author.Needs.{needs}
-use Rattle.replay.specs.Turns.{Fine}
+use Rattle.image.specs.Layout.{soundImage}
+use Rattle.turns.specs.Turns.{Fine}
 use Rattle.replay.proofs.run.Statement.{statement}
 use Rattle.replay.proofs.run.Tie as tie
 
 abbrev Inv-loop : tie.InvT-loop
 Inv-loop table₀ input₀ output₀ t₀ left₀ table input output t left =
-    Fine t × (length table ≡ length table₀) × (length input ≡ length input₀) × (length output ≡ length output₀)
+    Fine t × (soundImage table ≡ true) × (length table ≡ length table₀) × (length input ≡ length input₀) × (length output ≡ length output₀)
 
 abbrev μ-loop : tie.MeasureT-loop
 μ-loop table₀ input₀ output₀ t₀ left₀ table input output t left = left

@@ -1,8 +1,8 @@
--- `replay::waits` meets its contract.
+-- `turns::waits` meets its contract.
 use borrow.Author.Tests.{lt-ltb, le-ltb}
 use borrow.Author.Needs.{needs}
-use Rattle.replay.proofs.waits.Statement.{statement}
-use Rattle.replay.proofs.waits.Tie as tie
+use Rattle.turns.proofs.waits.Statement.{statement}
+use Rattle.turns.proofs.waits.Tie as tie
 
 returns : tie.Need-returns
 returns c = rw (lt-ltb _ 99 (c .before .if1 .taken))

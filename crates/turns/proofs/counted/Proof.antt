@@ -1,8 +1,8 @@
--- `replay::counted` meets its contract.
+-- `turns::counted` meets its contract.
 use native.Mathlib.Omega.{arith}
 use borrow.Author.Needs.{needs}
-use Rattle.replay.proofs.counted.Statement.{statement}
-use Rattle.replay.proofs.counted.Tie as tie
+use Rattle.turns.proofs.counted.Statement.{statement}
+use Rattle.turns.proofs.counted.Tie as tie
 
 returns : tie.Need-returns
 returns c = rw (c .if1 .taken)

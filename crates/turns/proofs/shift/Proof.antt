@@ -1,4 +1,4 @@
--- `replay::shift` meets its contract: by way of a run of its own.
+-- `turns::shift` meets its contract: by way of a run of its own.
 use Prim.Native.Nat.{ℕ, _-_}
 use native.Mathlib.Nat.{sub-zero, add-sub-cancel-left}
 use native.Mathlib.Omega.{arith}
@@ -8,9 +8,9 @@ use denote.Ref.{now}
 use lib.ListN.{length, take, drop, length-take, length-drop, replicate}
 use borrow.Author.Needs.{needs}
 use Rattle.octets.specs.Runs.{part, paste}
-use Rattle.replay.proofs.Laws.{brought}
-use Rattle.replay.proofs.shift.Statement.{statement}
-use Rattle.replay.proofs.shift.Tie as tie
+use Rattle.turns.proofs.Laws.{brought}
+use Rattle.turns.proofs.shift.Statement.{statement}
+use Rattle.turns.proofs.shift.Tie as tie
 
 returns : tie.Need-returns
 returns c =

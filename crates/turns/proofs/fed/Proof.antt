@@ -1,4 +1,4 @@
--- `replay::fed` meets its contract: what was not read yet is brought to the front, and the read is lent what follows it.
+-- `turns::fed` meets its contract: what was not read yet is brought to the front, and the read is lent what follows it.
 use Prim.Native.Nat.{_+_, _-_}
 use native.Mathlib.Omega.{arith}
 use mathlib.Core.Path.{_≡_, ap, _∙_}
@@ -6,10 +6,10 @@ use denote.Ref.{now}
 use lib.ListN.{length, take, drop, length-take, length-drop}
 use lib.Seq.{take-all}
 use borrow.Author.Needs.{needs}
-use Rattle.replay.specs.Turns.{unread}
-use Rattle.replay.proofs.Laws.{kept-before, brought}
-use Rattle.replay.proofs.fed.Statement.{statement}
-use Rattle.replay.proofs.fed.Tie as tie
+use Rattle.turns.specs.Turns.{unread}
+use Rattle.turns.proofs.Laws.{kept-before, brought}
+use Rattle.turns.proofs.fed.Statement.{statement}
+use Rattle.turns.proofs.fed.Tie as tie
 
 returns : tie.Need-returns
 returns c =

@@ -1,8 +1,8 @@
--- `replay::is_over` meets its contract.
+-- `turns::is_over` meets its contract.
 use borrow.Author.Tests.{eq-eqb, ne-eqb}
 use borrow.Author.Needs.{needs}
-use Rattle.replay.proofs.is_over.Statement.{statement}
-use Rattle.replay.proofs.is_over.Tie as tie
+use Rattle.turns.proofs.is_over.Statement.{statement}
+use Rattle.turns.proofs.is_over.Tie as tie
 
 returns : tie.Need-returns
 returns c = rw (eq-eqb _ 0 (c .if1 .taken))

@@ -12,8 +12,8 @@ use borrow.Author.Tests.{leb-true, eqb-false}
 use Rattle.ledger.proofs.Tallies.{chosen, either-no}
 use Rattle.octets.specs.Runs.{paste}
 use Rattle.paper.specs.RecordsIn.{recordSize}
-use Rattle.replay.specs.Turns.{isOver}
-use Rattle.replay.specs.declared.Turn.{Turn}
+use Rattle.turns.specs.Turns.{isOver}
+use Rattle.turns.specs.declared.Turn.{Turn}
 
 pub record-within : (r : List ℕ) → recordSize r ≤ length r
 unfolding recordSize

@@ -1,0 +1,97 @@
+-- The turns of a program that reads records on its input and prints a text for each call: what a call makes of them, and
+-- what holds between two.
+use Prim.Native.Nat.{ℕ, _+_, _-_, _≤_}
+use mathlib.Core.Path.{_≡_}
+use mathlib.Core.Bool.{Bool, true, false, not}
+use mathlib.Core.List.{List}
+use lib.Dec.{eqb, ltb}
+use lib.ListN.{take}
+use Rattle.ledger.specs.Choice.{both, either}
+use Rattle.ledger.specs.Tally.{oneIf}
+use Rattle.octets.specs.Runs.{part}
+use Rattle.paper.specs.RecordsIn.{recordSize}
+use Rattle.turns.specs.declared.Turn.{Turn}
+
+-- Nothing is read and nothing counted.
+abbrev pub firstTurn : ℕ → Turn
+firstTurn filled = record {
+  start = 0;
+  end = 0;
+  ended = false;
+  filled = filled;
+  calls = 0;
+  refused = 0;
+  going = true;
+  failed = false;
+}
+
+-- the bytes of the input that are not read yet
+abbrev pub unread : List ℕ → Turn → List ℕ
+unread input t = part input (t .start) (t .end - t .start)
+
+-- ---- a turn, once there is input and room for output
+
+-- A record may be cut, and more bytes may come.
+abbrev pub waits : Turn → Bool
+waits t = both (ltb (t .end - t .start) 99) (not (t .ended))
+
+-- No bytes are left, or no numbers to count calls with.
+abbrev pub isOver : Turn → Bool
+isOver t = either (eqb (t .end - t .start) 0) (eqb (t .calls) 18446744073709551615)
+
+abbrev pub stopping : Turn → Turn
+stopping t = record {
+  start = t .start;
+  end = t .end;
+  ended = t .ended;
+  filled = t .filled;
+  calls = t .calls;
+  refused = t .refused;
+  going = false;
+  failed = t .failed;
+}
+
+-- The call is counted, and the output filled as far as its text reaches. Reading goes on behind the record, or ends there.
+abbrev pub afterCall : List ℕ → ℕ → Bool → Turn → Turn
+afterCall input filled refused t = record {
+  start = t .start + recordSize (unread input t);
+  end = t .end;
+  ended = t .ended;
+  filled = filled;
+  calls = t .calls + 1;
+  refused = t .refused + oneIf refused;
+  going = ltb 0 (recordSize (unread input t));
+  failed = t .failed;
+}
+
+-- ---- reading on and writing out
+
+-- Reading on loses nothing: what was not read yet stands before what came.
+pub record Fed (input : List ℕ) (t : Turn) (input' : List ℕ) (t' : Turn) : Type 0 where
+  pub kept : take (t .end - t .start) (unread input' t') ≡ unread input t
+  pub filled : t' .filled ≡ t .filled
+  pub calls : t' .calls ≡ t .calls
+  pub refused : t' .refused ≡ t .refused
+
+-- Writing out changes nothing of what is read and counted.
+pub record Drained (t t' : Turn) : Type 0 where
+  pub start : t' .start ≡ t .start
+  pub end : t' .end ≡ t .end
+  pub ended : t' .ended ≡ t .ended
+  pub calls : t' .calls ≡ t .calls
+  pub refused : t' .refused ≡ t .refused
+
+-- ---- what holds between two turns: where the program stands in its buffers of 65,536 bytes
+
+pub record Fine (t : Turn) : Type 0 where
+  pub order : t .start ≤ t .end
+  pub within : t .end ≤ 65536
+  pub fits : t .filled ≤ 65536
+  pub counted : t .refused ≤ t .calls
+
+-- with room for what a call prints
+pub record Ready (t : Turn) : Type 0 where
+  pub order : t .start ≤ t .end
+  pub within : t .end ≤ 65536
+  pub fits : t .filled ≤ 45000
+  pub counted : t .refused ≤ t .calls
