@@ -88,10 +88,10 @@ module _ (img register : List ℕ) (w : Told img register) (short : length (line
   opening-told s m =
       ap (λ (l : List ℕ). l ++ spaced (openOn s register) ++ (10 ∷ []))
       (six-numbers (wordOpening ++ spaced s) (s * 24) (length (fates s h)) (λ k. getD (tallies k s (lines h) []) 0 0) register
-        (ap (λ (l : List ℕ). getD l (s * 24) 0) (w .entered) ∙ kept-openings (lines h) fine short s m)
-        (λ k b. ap (λ (l : List ℕ). getD l (s * 24 + 1 + k) 0) (w .entered) ∙ kept-counts (lines h) fine short s k m b))
+      (ap (λ (l : List ℕ). getD l (s * 24) 0) (w .entered) ∙ kept-openings (lines h) fine short s m)
+      (λ k b. ap (λ (l : List ℕ). getD l (s * 24 + 1 + k) 0) (w .entered) ∙ kept-counts (lines h) fine short s k m b))
       ∙ ap (λ (n : ℕ). wordOpening ++ spaced s ++ spaced (length (fates s h)) ++ spaced (indicated s 0 h) ++ spaced (accepted s 0 h) ++ spaced (denied s 0 h) ++ spaced (withdrawn s 0 h) ++ spaced (dropped s 0 h) ++ spaced n ++ (10 ∷ []))
-        (open-is s m ∙ ap openCount (sym (newest-first (fates s h))))
+      (open-is s m ∙ ap openCount (sym (newest-first (fates s h))))
 
   -- The line of a call that ends shows the place and the number of that very call.
   pub call-told : (s n : ℕ) (e : End) → s < 16 → has n (openBy s h) ≡ true → callLine s (placeOf s n register) (wordOf e) register ≡ callShown s n e h
@@ -101,8 +101,8 @@ module _ (img register : List ℕ) (w : Told img register) (short : length (line
       (one-number (wordCall ++ spaced s) (s * 24) (length (fates s h)) register (ap (λ (l : List ℕ). getD l (s * 24) 0) (w .entered) ∙ kept-openings (lines h) fine short s m))
       ∙ ap (λ (l : List ℕ). l ++ wordOf e ++ (10 ∷ []))
       (two-numbers (wordCall ++ spaced s ++ spaced (length (fates s h))) (placeOf s n register) (suc (firstOf (asked n) (newest (fates s h)))) n register
-        (ap (λ (l : List ℕ). getD l (placeOf s n l) 0) (w .entered) ∙ found-place (lines h) fine short s n m f)
-        (ap (λ (l : List ℕ). getD l (placeOf s n l + 1) 0) (w .entered) ∙ found-number (lines h) fine short s n m f))
+      (ap (λ (l : List ℕ). getD l (placeOf s n l) 0) (w .entered) ∙ found-place (lines h) fine short s n m f)
+      (ap (λ (l : List ℕ). getD l (placeOf s n l + 1) 0) (w .entered) ∙ found-number (lines h) fine short s n m f))
 
   open-all : openOnAll 16 0 register ≡ overStreams 16 (λ s. sumOf openCount (fates s h))
   open-all =
@@ -114,6 +114,6 @@ module _ (img register : List ℕ) (w : Told img register) (short : length (line
   total-told =
       ap (λ (l : List ℕ). l ++ spaced (openOnAll 16 0 register) ++ (10 ∷ []))
       (six-numbers wordTotal 384 (overStreams 16 (λ s. length (fates s h))) (λ k. totalOf k h) register
-        (ap (λ (l : List ℕ). getD l 384 0) (w .entered) ∙ kept-all-openings (lines h) fine short)
-        (λ k b. ap (λ (l : List ℕ). getD l (385 + k) 0) (w .entered) ∙ kept-all-counts (lines h) fine short k b))
+      (ap (λ (l : List ℕ). getD l 384 0) (w .entered) ∙ kept-all-openings (lines h) fine short)
+      (λ k b. ap (λ (l : List ℕ). getD l (385 + k) 0) (w .entered) ∙ kept-all-counts (lines h) fine short k b))
       ∙ ap (λ (n : ℕ). wordTotal ++ spaced (overStreams 16 (λ s. length (fates s h))) ++ spaced (totalOf 0 h) ++ spaced (totalOf 1 h) ++ spaced (totalOf 2 h) ++ spaced (totalOf 3 h) ++ spaced (totalOf 4 h) ++ spaced n ++ (10 ∷ [])) open-all

@@ -1,1 +1,127 @@
-fn main() {}
+// Reads records on standard input and prints what became of each call that rang in: see docs/FATES.md.
+ghost use mathlib.Core.Path.{_≡_};
+ghost use Prim.Native.Nat.{_+_, _<_, _≤_};
+ghost use lib.ListN.{length};
+ghost use Rattle.octets.specs.Runs.{paste};
+ghost use Rattle.register.specs.Register.{enteredAll};
+ghost use Rattle.report.specs.Report.{allText};
+ghost use Rattle.turns.specs.Turns.{Fine, Ready};
+ghost use Rattle.fates.specs.Told.{Told, made, linesBy};
+ghost use Rattle.fates.specs.Turns.{callOn, linesOn, textOn, called, turnAfter, tableAfter, registerAfter, outputAfter};
+use turns::Turn;
+
+// One call: its lines are entered in the register, and their text goes to the output from a place on.
+fn tell_call(
+    table: &mut [u8],
+    register: &mut [u64],
+    bytes: &[u8],
+    out: &mut [u8],
+    at: usize,
+) -> usize
+    requires { ⌜ Told (now table) (now register) × (length (now register) ≡ 408) × (at + 20000 ≤ length (now out)) ⌝ }
+    ensures { λ r. ⌜ Told (now (table .exit)) (now (register .exit)) × (now (table .exit) ≡ made (now (table .entry)) (now (bytes .entry)) .image) × (now (register .exit) ≡ enteredAll (linesBy (now (bytes .entry)) (made (now (table .entry)) (now (bytes .entry)))) (now (register .entry))) ⌝ }
+    ensures { λ r. ⌜ now (out .exit) ≡ paste (now (out .entry)) at (allText (linesBy (now (bytes .entry)) (made (now (table .entry)) (now (bytes .entry)))) (now (register .entry))) ⌝ }
+    ensures { λ r. ⌜ (r ≡ at + length (allText (linesBy (now (bytes .entry)) (made (now (table .entry)) (now (bytes .entry)))) (now (register .entry)))) × (r ≤ at + 20000) ⌝ }
+{
+    let mut room = [0u8; 128];
+    let answer = engine::call_sound(table, bytes, &mut room);
+    report::tell_call(register, out, at, bytes, answer, &room)
+}
+
+// The call on what is not read yet, and its text behind what is printed already.
+fn called(table: &mut [u8], register: &mut [u64], input: &[u8], output: &mut [u8], t: Turn) -> Turn
+    requires { ⌜ Told (now table) (now register) × (length (now register) ≡ 408) × (length (now input) ≡ 65536) × (length (now output) ≡ 65536) × Ready t × (t .calls < 18446744073709551615) ⌝ }
+    ensures { λ r. ⌜ (r ≡ called (now (table .entry)) (now (register .entry)) (now (input .entry)) t) × Fine r ⌝ }
+    ensures { λ r. ⌜ Told (now (table .exit)) (now (register .exit)) × (now (table .exit) ≡ callOn (now (table .entry)) (now (input .entry)) t .image) × (now (register .exit) ≡ enteredAll (linesOn (now (table .entry)) (now (input .entry)) t) (now (register .entry))) ⌝ }
+    ensures { λ r. ⌜ now (output .exit) ≡ paste (now (output .entry)) (t .filled) (textOn (now (table .entry)) (now (register .entry)) (now (input .entry)) t) ⌝ }
+{
+    let start = t.start;
+    let end = t.end;
+    let filled = tell_call(table, register, &input[start..end], output, t.filled);
+    turns::after_call(input, filled, false, t)
+}
+
+// A call is made where a whole record may stand in the input, or no more is to come. Reading ends behind the last record, and
+// at one that is cut or of an unknown kind.
+fn turned(table: &mut [u8], register: &mut [u64], input: &[u8], output: &mut [u8], t: Turn) -> Turn
+    requires { ⌜ Told (now table) (now register) × (length (now register) ≡ 408) × (length (now input) ≡ 65536) × (length (now output) ≡ 65536) × Ready t ⌝ }
+    ensures { λ r. ⌜ (r ≡ turnAfter (now (table .entry)) (now (register .entry)) (now (input .entry)) t) × Fine r ⌝ }
+    ensures { λ r. ⌜ Told (now (table .exit)) (now (register .exit)) × (now (table .exit) ≡ tableAfter (now (table .entry)) (now (input .entry)) t) × (now (register .exit) ≡ registerAfter (now (table .entry)) (now (register .entry)) (now (input .entry)) t) ⌝ }
+    ensures { λ r. ⌜ now (output .exit) ≡ outputAfter (now (table .entry)) (now (register .entry)) (now (input .entry)) (now (output .entry)) t ⌝ }
+{
+    if turns::waits(t) {
+        return t;
+    }
+    if turns::is_over(t) {
+        return turns::stopped(t);
+    }
+    called(table, register, input, output, t)
+}
+
+fn one_turn(
+    table: &mut [u8],
+    register: &mut [u64],
+    input: &mut [u8],
+    output: &mut [u8],
+    t: Turn,
+) -> Turn
+    requires { ⌜ Told (now table) (now register) × (length (now register) ≡ 408) × (length (now input) ≡ 65536) × (length (now output) ≡ 65536) × Fine t ⌝ }
+    ensures { λ r. ⌜ Fine r × Told (now (table .exit)) (now (register .exit)) ⌝ }
+{
+    let a = turns::fed(input, t);
+    if !a.going {
+        return a;
+    }
+    let b = turns::drained(output, a);
+    if !b.going {
+        return b;
+    }
+    turned(table, register, input, output, b)
+}
+
+// Turn after turn, until one says to stop.
+fn run(
+    table: &mut [u8],
+    register: &mut [u64],
+    input: &mut [u8],
+    output: &mut [u8],
+    t0: Turn,
+) -> Turn
+    requires { ⌜ Told (now table) (now register) × (length (now register) ≡ 408) × (length (now input) ≡ 65536) × (length (now output) ≡ 65536) × Fine t0 ⌝ }
+    ensures { λ r. ⌜ Fine r × Told (now (table .exit)) (now (register .exit)) ⌝ }
+{
+    let mut t = t0;
+    let mut left: u64 = 0xffffffffffffffff;
+    while 0 < left {
+        if !t.going {
+            return t;
+        }
+        t = one_turn(table, register, input, output, t);
+        left -= 1;
+    }
+    t
+}
+
+// Starts from a fresh table and a blank register, with the first line filled in. Where reading or writing failed there is no
+// last line, so that what was printed is not taken for the whole.
+fn main() {
+    let mut table = [0u8; 760];
+    image::make_fresh(&mut table);
+    let mut register = [0u64; 408];
+    let mut input = io::large_buffer();
+    let mut output = io::large_buffer();
+    let title = report::put_title(&mut output, 0);
+    let first = turns::first_turn(title);
+    let last = run(&mut table, &mut register, &mut input, &mut output, first);
+    let d = turns::drained(&output, last);
+    let filled = d.filled;
+    if d.failed {
+        io::write_all(1, &output[0..filled]);
+        io::write_all(2, b"fates: reading or writing failed\n");
+        return;
+    }
+    let end = report::put_closing(&mut output, filled, &register);
+    if !io::write_all(1, &output[0..end]) {
+        io::write_all(2, b"fates: reading or writing failed\n");
+    }
+}

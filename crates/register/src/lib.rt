@@ -9,7 +9,7 @@ ghost use Rattle.register.specs.Register.{oneMore, raised, counting, clo
 use book::End;
 use book::Line;
 
-// Up to the largest number.
+// One more, up to the largest number of 64 bits.
 fn one_more(n: u64) -> u64
     ensures { λ r. ⌜ r ≡ oneMore n ⌝ }
 {
@@ -19,20 +19,21 @@ fn one_more(n: u64) -> u64
     n + 1
 }
 
-fn raise(register: &mut [u64], c: usize)
-    requires { ⌜ (length (now register) ≡ 408) × (c < 408) ⌝ }
-    ensures { λ _. ⌜ now (register .exit) ≡ raised c (now (register .entry)) ⌝ }
+// Count k of a page is one more.
+fn raise(register: &mut [u64], page: usize, k: usize)
+    requires { ⌜ (length (now register) ≡ 408) × (page ≤ 384) × (k < 6) ⌝ }
+    ensures { λ _. ⌜ now (register .exit) ≡ raised (page + k) (now (register .entry)) ⌝ }
 {
-    register[c] = one_more(register[c]);
+    register[page + k] = one_more(register[page + k]);
 }
 
-// On the stream's page and on that of the whole table.
+// Count k is one more, on the stream's page and on that of the whole table.
 fn count(register: &mut [u64], i: usize, k: usize)
     requires { ⌜ (length (now register) ≡ 408) × (i < 16) × (k < 6) ⌝ }
     ensures { λ _. ⌜ now (register .exit) ≡ counting i k (now (register .entry)) ⌝ }
 {
-    raise(register, i * 24 + k);
-    raise(register, 384 + k);
+    raise(register, i * 24, k);
+    raise(register, 384, k);
 }
 
 // The cell of the first free place of stream i, or the cell behind its places.
@@ -86,7 +87,7 @@ pub fn open_on(register: &[u64], i: usize) -> u64
     ((c - (i * 24 + 6)) / 2) as u64
 }
 
-// All of a page but how often it was opened becomes zero, from its second cell on.
+// 21 cells become zero: of a page all that is told of its newest opening.
 fn clear(register: &mut [u64], at: usize)
     requires { ⌜ (length (now register) ≡ 408) × (at + 21 ≤ 408) ⌝ }
     ensures { λ _. ⌜ now (register .exit) ≡ cleared 21 at (now (register .entry)) ⌝ }

@@ -48,14 +48,7 @@ fn put_numbers(out: &mut [u8], at: usize, register: &[u64], c: usize, k: usize) 
 }
 
 // 'call stream opening call number fate', of the indication in cell c.
-fn put_call(
-    out: &mut [u8],
-    at: usize,
-    register: &[u64],
-    i: usize,
-    c: usize,
-    word: &[u8],
-) -> usize
+fn put_call(out: &mut [u8], at: usize, register: &[u64], i: usize, c: usize, word: &[u8]) -> usize
     requires { ⌜ (length (now register) ≡ 408) × (i < 16) × (c + 2 ≤ 408) × (length (now word) ≤ 10) × (at + 100 ≤ length (now out)) ⌝ }
     ensures { λ r. ⌜ (r ≡ at + length (callLine i c (now (word .entry)) (now (register .entry)))) × (now (out .exit) ≡ paste (now (out .entry)) at (callLine i c (now (word .entry)) (now (register .entry)))) ⌝ }
     ensures { λ r. ⌜ r ≤ at + 100 ⌝ }
@@ -69,14 +62,7 @@ fn put_call(
 }
 
 // The line of one that ended.
-fn put_ended(
-    out: &mut [u8],
-    at: usize,
-    register: &[u64],
-    i: usize,
-    c: usize,
-    end: End,
-) -> usize
+fn put_ended(out: &mut [u8], at: usize, register: &[u64], i: usize, c: usize, end: End) -> usize
     requires { ⌜ (length (now register) ≡ 408) × (i < 16) × (c + 2 ≤ 408) × (at + 100 ≤ length (now out)) ⌝ }
     ensures { λ r. ⌜ (r ≡ at + length (callLine i c (wordOf end) (now (register .entry)))) × (now (out .exit) ≡ paste (now (out .entry)) at (callLine i c (wordOf end) (now (register .entry)))) ⌝ }
     ensures { λ r. ⌜ r ≤ at + 100 ⌝ }
@@ -148,14 +134,7 @@ fn put_began(out: &mut [u8], at: usize, register: &[u64], i: u8) -> usize
 }
 
 // An indication ended that stands in the register.
-fn put_went(
-    out: &mut [u8],
-    at: usize,
-    register: &[u64],
-    i: u8,
-    n: u32,
-    end: End,
-) -> usize
+fn put_went(out: &mut [u8], at: usize, register: &[u64], i: u8, n: u32, end: End) -> usize
     requires { ⌜ (length (now register) ≡ 408) × (at + 100 ≤ length (now out)) ⌝ }
     ensures { λ r. ⌜ (r ≡ at + length (lineText (Went i n end) (now (register .entry)))) × (now (out .exit) ≡ paste (now (out .entry)) at (lineText (Went i n end) (now (register .entry)))) ⌝ }
     ensures { λ r. ⌜ r ≤ at + 100 ⌝ }
@@ -290,5 +269,11 @@ pub fn tell_call(
 {
     let q = records::input_of(lent);
     let a = tell_opening(register, out, at, answer / 16777216);
-    tell_records(register, out, a, q, transcript::start_of(room, (answer % 65536) as usize))
+    tell_records(
+        register,
+        out,
+        a,
+        q,
+        transcript::start_of(room, (answer % 65536) as usize),
+    )
 }

@@ -1,5 +1,5 @@
-use borrow.Author.Needs.{needs}
 use Rattle.register.specs.Register.{raised}
+use borrow.Author.Needs.{needs}
 use Rattle.register.proofs.raise.Statement.{statement}
 use Rattle.register.proofs.raise.Tie as tie
 
@@ -13,7 +13,9 @@ raise-spec =
     (tie.spec
     (λ c. search needs)
     (λ c. search needs)
+    (λ c. search needs)
     (λ c κs. search needs)
+    (λ c. search needs)
     (λ c. search needs)
     (λ c. search needs)
     (λ c. search needs)

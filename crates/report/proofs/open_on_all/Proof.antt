@@ -20,7 +20,7 @@ loop-holds : tie.Need-loop-holds Inv-loop μ-loop
 loop-holds c = (omega arith, omega arith, omega arith)
 
 loop-again : tie.Need-loop-again Inv-loop μ-loop
-loop-again c = 
+loop-again c =
     let l = c .before .before .loop in
     let o = c .open-on in
     (omega arith, omega (arith, o .ensures .1), omega (arith, l .inv .2, o .ensures .0, sum-next 16 (l .i) (now (c .before .before .before .before .args .register)) (search needs)))

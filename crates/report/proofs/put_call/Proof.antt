@@ -12,7 +12,7 @@ use Rattle.report.proofs.put_call.Statement.{statement}
 use Rattle.report.proofs.put_call.Tie as tie
 
 returns : tie.Need-returns
-returns c = 
+returns c =
     let a = c .before .before .before .before .before .before .before .before .before .before .before .before .before .before .before .before .before .before .before .before .before .before .before .before .before .before .before .before .before .args in
     let l = now (a .register) in
     let fits : a .at ≤ length (now (a .out)) = omega (arith, c .before .before .before .before .before .before .before .before .before .before .before .before .before .before .before .before .before .before .before .before .before .before .before .before .before .before .before .before .before .pre .4) in

@@ -7,7 +7,7 @@ use Rattle.report.proofs.put_closing.Statement.{statement}
 use Rattle.report.proofs.put_closing.Tie as tie
 
 returns : tie.Need-returns
-returns c = 
+returns c =
     let a = c .before .before .before .before .before .before .before .before .before .before .args in
     let l = now (a .register) in
     (after (now (a .out)) (a .at) (endTexts 16 0 l) (totalLine l) (search needs) (c .before .before .before .before .before .before .put-ends .ensures .0) (c .before .before .put-total .ensures .0), search needs)

@@ -17,7 +17,7 @@ returns c = rw (eq-eqb _ _ (c .if1 .taken)) (unwritten (now (c .before .before .
 
 returns-2 : tie.Need-returns-2
 unfolding endText _⇒_∣_
-returns-2 c = 
+returns-2 c =
     let a = c .before .before .before .before .before .before .before .before .before .before .before .before .args in
     let l = now (a .register) in
     let o = c .before .before .before .before .before .before .put-open .ensures in

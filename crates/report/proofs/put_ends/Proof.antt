@@ -18,12 +18,12 @@ abbrev μ-loop : tie.MeasureT-loop
 μ-loop out₀ at register e₀ i₀ out e i = 16 - i
 
 loop-holds : tie.Need-loop-holds Inv-loop μ-loop
-loop-holds c = 
+loop-holds c =
     let a = c .before .before .args in
     (omega arith, omega arith, refl, all-coming (now (a .out)) (a .at) (endTexts 16 0 (now (a .register))))
 
 loop-again : tie.Need-loop-again Inv-loop μ-loop
-loop-again c = 
+loop-again c =
     let a = c .before .before .before .before .before .before .before .before .args in
     let l = c .before .before .before .before .before .loop in
     let one = c .before .before .put-end in
@@ -35,7 +35,7 @@ loop-again c =
     )
 
 returns : tie.Need-returns Inv-loop μ-loop
-returns c = 
+returns c =
     let a = c .before .before .before .before .args in
     let l = c .before .loop in
     (none-coming (l .inv .3) (ends-end 16 (l .i) (now (a .register)) (c .loop-test .left)), search needs)

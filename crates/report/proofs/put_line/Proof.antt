@@ -8,7 +8,7 @@ use Rattle.report.proofs.put_line.Statement.{statement}
 use Rattle.report.proofs.put_line.Tie as tie
 
 returns : tie.Need-returns
-returns c = 
+returns c =
     let w = c .before .before .put-began .ensures in
     rw (c .before .before .before .before .before .y .given .1) w
 
@@ -17,7 +17,7 @@ unfolding lineText
 returns-2 c = rw (c .enum-told .given .1) (unwritten (now (c .before .before .before .before .args .out)) (c .before .before .before .before .args .at), omega arith)
 
 returns-3 : tie.Need-returns-3
-returns-3 c = 
+returns-3 c =
     let w = c .before .before .put-went .ensures in
     rw (c .before .before .before .before .before .y2 .given .1) (w .0, omega (arith, w .1))
 

@@ -18,18 +18,18 @@ abbrev μ-loop : tie.MeasureT-loop
 μ-loop out₀ at register i e₀ c₀ left₀ t8 out e c left = left
 
 loop-holds : tie.Need-loop-holds Inv-loop μ-loop
-loop-holds c = 
+loop-holds c =
     let a = c .before .before .args in
     (omega arith, omega arith, omega arith, refl, all-coming (now (a .out)) (a .at) (openLines 8 (a .i) (a .i * 24 + 6) (now (a .register))))
 
 returns : tie.Need-returns Inv-loop μ-loop
-returns c = 
+returns c =
     let a = c .before .before .before .before .before .before .args in
     let l = c .before .before .before .loop in
     (none-coming (l .inv .4) (open-none (l .left) (a .i) (l .c) (now (a .register)) (c .if1 .taken)), search needs)
 
 loop-again : tie.Need-loop-again Inv-loop μ-loop
-loop-again c = 
+loop-again c =
     let a = c .before .before .before .before .before .before .before .before .before .before .before .args in
     let l = c .before .before .before .before .before .before .before .before .loop in
     let line = c .before .before .put-call in
@@ -43,7 +43,7 @@ loop-again c =
     )
 
 returns-2 : tie.Need-returns-2 Inv-loop μ-loop
-returns-2 c = 
+returns-2 c =
     let a = c .before .before .before .before .args in
     let l = c .before .loop in
     (none-coming (l .inv .4) (open-end (l .left) (a .i) (l .c) (now (a .register)) (c .loop-test .left)), search needs)

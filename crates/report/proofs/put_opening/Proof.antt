@@ -10,23 +10,25 @@ use Rattle.report.proofs.put_opening.Statement.{statement}
 use Rattle.report.proofs.put_opening.Tie as tie
 
 returns : tie.Need-returns
-returns c = 
+returns c =
     let a = c .before .before .before .before .before .before .before .before .before .before .before .before .before .before .before .before .before .before .before .before .before .before .before .before .before .args in
     let l = now (a .register) in
     let o = c .before .before .before .before .before .before .before .before .open-on in
     let to1 = wordOpening ++ (spaced (a .i)) in
     let to2 = to1 ++ (numbers 6 (a .i * 24) l) in
     let to3 = to2 ++ (spaced (o .result)) in
-    rw (← o .ensures .0) (after (now (a .out)) (a .at) (to3) (10 ∷ []) (search needs)
-    (after (now (a .out)) (a .at) (to2) (spaced (o .result)) (search needs)
-    (after (now (a .out)) (a .at) (to1) (numbers 6 (a .i * 24) l) (search needs)
-    (after (now (a .out)) (a .at) wordOpening (spaced (a .i)) (search needs)
-    (c .before .before .before .before .before .before .before .before .before .before .before .before .before .before .before .before .before .before .before .before .put-word .ensures)
-    (c .before .before .before .before .before .before .before .before .before .before .before .before .before .before .before .before .put-spaced .ensures .0))
-    (c .before .before .before .before .before .before .before .before .before .before .before .before .put-numbers .ensures .0))
-    (c .before .before .before .before .before .before .before .put-spaced2 .ensures .0))
-    (c .before .before .put-word2 .ensures),
-    search needs)
+    rw (← o .ensures .0) (
+      after (now (a .out)) (a .at) (to3) (10 ∷ []) (search needs)
+          (after (now (a .out)) (a .at) (to2) (spaced (o .result)) (search needs)
+          (after (now (a .out)) (a .at) (to1) (numbers 6 (a .i * 24) l) (search needs)
+          (after (now (a .out)) (a .at) wordOpening (spaced (a .i)) (search needs)
+          (c .before .before .before .before .before .before .before .before .before .before .before .before .before .before .before .before .before .before .before .before .put-word .ensures)
+          (c .before .before .before .before .before .before .before .before .before .before .before .before .before .before .before .before .put-spaced .ensures .0))
+          (c .before .before .before .before .before .before .before .before .before .before .before .before .put-numbers .ensures .0))
+          (c .before .before .before .before .before .before .before .put-spaced2 .ensures .0))
+          (c .before .before .put-word2 .ensures),
+      search needs,
+    )
 
 pub put-opening-spec : {M : Type 1} → statement M
 put-opening-spec =

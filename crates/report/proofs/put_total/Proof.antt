@@ -8,20 +8,22 @@ use Rattle.report.proofs.put_total.Statement.{statement}
 use Rattle.report.proofs.put_total.Tie as tie
 
 returns : tie.Need-returns
-returns c = 
+returns c =
     let a = c .before .before .before .before .before .before .before .before .before .before .before .before .before .before .before .before .before .before .before .before .before .args in
     let l = now (a .register) in
     let o = c .before .before .before .before .before .before .before .before .open-on-all in
     let to1 = wordTotal ++ (numbers 6 384 l) in
     let to2 = to1 ++ (spaced (o .result)) in
-    rw (← o .ensures) (after (now (a .out)) (a .at) (to2) (10 ∷ []) (search needs)
-    (after (now (a .out)) (a .at) (to1) (spaced (o .result)) (search needs)
-    (after (now (a .out)) (a .at) wordTotal (numbers 6 384 l) (search needs)
-    (c .before .before .before .before .before .before .before .before .before .before .before .before .before .before .before .before .put-word .ensures)
-    (c .before .before .before .before .before .before .before .before .before .before .before .before .put-numbers .ensures .0))
-    (c .before .before .before .before .before .before .before .put-spaced .ensures .0))
-    (c .before .before .put-word2 .ensures),
-    search needs)
+    rw (← o .ensures) (
+      after (now (a .out)) (a .at) (to2) (10 ∷ []) (search needs)
+          (after (now (a .out)) (a .at) (to1) (spaced (o .result)) (search needs)
+          (after (now (a .out)) (a .at) wordTotal (numbers 6 384 l) (search needs)
+          (c .before .before .before .before .before .before .before .before .before .before .before .before .before .before .before .before .put-word .ensures)
+          (c .before .before .before .before .before .before .before .before .before .before .before .before .put-numbers .ensures .0))
+          (c .before .before .before .before .before .before .before .put-spaced .ensures .0))
+          (c .before .before .put-word2 .ensures),
+      search needs,
+    )
 
 pub put-total-spec : {M : Type 1} → statement M
 put-total-spec =

@@ -4,7 +4,7 @@ use Rattle.report.proofs.tell.Statement.{statement}
 use Rattle.report.proofs.tell.Tie as tie
 
 returns : tie.Need-returns
-returns c = 
+returns c =
     let w = c .before .before .before .before .before .before .put-line .ensures in
     (w .0, (w .1, c .before .before .enter .ensures))
 

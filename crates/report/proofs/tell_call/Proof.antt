@@ -13,7 +13,7 @@ tell-records-requires : tie.Need-tell-records-requires
 tell-records-requires c κs = (search needs, rw (c .start-of .ensures) (omega (arith, length-take (c .before .before .before .before .before .before .before .before .before .before .before .before .before .before .before .args .answer % 65536) (now (c .before .before .before .before .before .before .before .before .before .before .before .before .before .before .before .args .room)))), search needs)
 
 returns : tie.Need-returns
-returns c = 
+returns c =
     let a = c .before .before .before .before .before .before .before .before .before .before .before .before .before .before .before .before .before .before .before .before .args in
     let s = now (c .before .before .before .before .before .start-of .result) in
     let q = c .before .before .before .before .before .before .before .before .before .before .before .before .before .before .before .input-of .result in

@@ -14,7 +14,7 @@ unfolding allText enteredAll
 returns c = rw (c .if1 .taken) (unwritten (now (c .before .before .before .args .out)) (c .before .before .before .args .at), (omega arith, refl))
 
 returns-2 : tie.Need-returns-2
-returns-2 c = 
+returns-2 c =
     let a = c .before .before .before .before .before .before .before .before .before .before .args in
     let l = now (a .register) in
     let some = c .before .before .before .before .before .before .before .if1 .left in

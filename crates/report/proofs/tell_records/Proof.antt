@@ -21,7 +21,7 @@ abbrev μ-loop : tie.MeasureT-loop
 μ-loop register₀ out₀ at q written e₀ i₀ register out e i = 227 - i
 
 loop-holds : tie.Need-loop-holds Inv-loop μ-loop
-loop-holds c = 
+loop-holds c =
     let a = c .before .before .before .args in
     (omega arith, omega arith, refl, refl, all-telling (now (a .out)) (a .at) (a .q) (now (a .written)) (now (a .register)))
 
@@ -32,7 +32,7 @@ loop-less : tie.Need-loop-less Inv-loop μ-loop
 loop-less c = omega (arith, size-within (getD (now (c .before .before .before .before .before .before .before .before .before .before .before .before .before .before .before .before .args .written)) (c .before .before .before .before .before .before .before .before .before .before .before .before .loop .i) 0), c .size-out .ensures)
 
 loop-again : tie.Need-loop-again Inv-loop μ-loop
-loop-again c = 
+loop-again c =
     let a = c .before .before .before .before .before .before .before .before .before .before .before .before .before .before .before .before .args in
     let l = c .before .before .before .before .before .before .before .before .before .before .before .before .loop in
     let b = now (a .written) in
@@ -52,7 +52,7 @@ loop-again c =
     )
 
 returns : tie.Need-returns Inv-loop μ-loop
-returns c = 
+returns c =
     let l = c .before .loop in
     let all = none-telling (l .inv .4) (c .loop-test .left) in
     (all .0, (omega (arith, l .inv .0, l .inv .1), all .1))
