@@ -11,7 +11,6 @@ use Rattle.ledger.proofs.Tallies.{chosen}
 use Rattle.octets.specs.Numbers.{be32At}
 use Rattle.octets.specs.Runs.{paste}
 use Rattle.octets.proofs.Laws.{paste-join}
-use Rattle.text.specs.Digits.{decimal}
 use Rattle.text.proofs.Laws.{decimal-most, after, paste-nothing}
 use Rattle.paper.specs.declared.Input.{Input}
 use Rattle.transcript.specs.Transcript.{sizeOut}

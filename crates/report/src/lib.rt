@@ -1,13 +1,12 @@
 // What fates prints, from the register of calls: see docs/FATES.md. Each writer answers with the place behind.
 ghost use mathlib.Core.Path.{_≡_};
-ghost use mathlib.Core.List.{_++_};
 ghost use Prim.Native.Nat.{_+_, _*_, _/_, _%_, _<_, _≤_};
 ghost use lib.ListN.{length, take};
 ghost use Rattle.octets.specs.Runs.{paste};
 ghost use Rattle.book.specs.Lines.{linesIn, openingLines, linesOf};
 ghost use Rattle.book.specs.declared.Line.the-variants.{Began, Went};
 ghost use Rattle.register.specs.Register.{entered, enteredAll};
-ghost use Rattle.report.specs.Report.{title, wordOf, spaced, numbers, callLine, openLines, openingLine, endText, lineText, allText, endTexts, openOnAll, totalLine, closing, wordOpen};
+ghost use Rattle.report.specs.Report.{title, wordOf, spaced, numbers, callLine, openLines, openingLine, endText, lineText, allText, endTexts, openOnAll, totalLine, closing};
 use book::End;
 use book::Line;
 use paper::Input;
@@ -32,7 +31,7 @@ fn put_spaced(out: &mut [u8], at: usize, n: u64) -> usize
 
 // k numbers of the register, from cell c on.
 fn put_numbers(out: &mut [u8], at: usize, register: &[u64], c: usize, k: usize) -> usize
-    requires { ⌜ (k ≤ 6) × (c + k ≤ length (now register)) × (at + 21 * k ≤ length (now out)) ⌝ }
+    requires { ⌜ (c + k ≤ length (now register)) × (at + 21 * k ≤ length (now out)) ⌝ }
     ensures { λ r. ⌜ (r ≡ at + length (numbers k c (now (register .entry)))) × (now (out .exit) ≡ paste (now (out .entry)) at (numbers k c (now (register .entry)))) ⌝ }
     ensures { λ r. ⌜ r ≤ at + 21 * k ⌝ }
 {
@@ -269,11 +268,6 @@ pub fn tell_call(
 {
     let q = records::input_of(lent);
     let a = tell_opening(register, out, at, answer / 16777216);
-    tell_records(
-        register,
-        out,
-        a,
-        q,
-        transcript::start_of(room, (answer % 65536) as usize),
-    )
+    let written = transcript::start_of(room, (answer % 65536) as usize);
+    tell_records(register, out, a, q, written)
 }

@@ -1,11 +1,11 @@
 -- `report::open_on_all` meets its contract: the sum so far, and that of the streams that follow.
 use Prim.Native.Nat.{_+_, _*_, _-_, _≤_}
-use Rattle.report.proofs.Laws.{sum-end, sum-next}
-use Rattle.report.specs.Report.{openOnAll}
-use denote.Ref.{now}
-use mathlib.Core.Path.{_≡_, refl}
 use native.Mathlib.Omega.{arith}
+use mathlib.Core.Path.{_≡_}
+use denote.Ref.{now}
 use borrow.Author.Needs.{needs}
+use Rattle.report.specs.Report.{openOnAll}
+use Rattle.report.proofs.Laws.{sum-end, sum-next}
 use Rattle.report.proofs.open_on_all.Statement.{statement}
 use Rattle.report.proofs.open_on_all.Tie as tie
 

@@ -1,8 +1,8 @@
 -- `report::put_closing` meets its contract: the total behind the last openings.
-use Rattle.report.specs.Report.{endTexts, totalLine}
-use Rattle.text.proofs.Laws.{after}
 use denote.Ref.{now}
 use borrow.Author.Needs.{needs}
+use Rattle.text.proofs.Laws.{after}
+use Rattle.report.specs.Report.{endTexts, totalLine}
 use Rattle.report.proofs.put_closing.Statement.{statement}
 use Rattle.report.proofs.put_closing.Tie as tie
 

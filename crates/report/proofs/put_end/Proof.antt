@@ -1,13 +1,13 @@
 -- `report::put_end` meets its contract: one test, then the lines of the open ones and the line of the opening.
 use Prim.Native.Nat.{_+_, _*_}
-use Rattle.ledger.specs.Choice.{_⇒_∣_}
-use Rattle.report.proofs.Laws.{unwritten}
-use Rattle.report.specs.Report.{openLines, openingLine, endText}
-use Rattle.text.proofs.Laws.{after}
-use borrow.Author.Tests.{eq-eqb, ne-eqb}
-use denote.Ref.{now}
 use native.Mathlib.Omega.{arith}
+use denote.Ref.{now}
+use borrow.Author.Tests.{eq-eqb, ne-eqb}
 use borrow.Author.Needs.{needs}
+use Rattle.ledger.specs.Choice.{_⇒_∣_}
+use Rattle.text.proofs.Laws.{after}
+use Rattle.report.specs.Report.{openLines, openingLine, endText}
+use Rattle.report.proofs.Laws.{unwritten}
 use Rattle.report.proofs.put_end.Statement.{statement}
 use Rattle.report.proofs.put_end.Tie as tie
 

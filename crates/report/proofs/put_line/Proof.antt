@@ -1,16 +1,14 @@
 -- `report::put_line` meets its contract: line by line.
-use Rattle.report.proofs.Laws.{unwritten}
-use Rattle.report.specs.Report.{lineText}
-use denote.Ref.{now}
 use native.Mathlib.Omega.{arith}
+use denote.Ref.{now}
 use borrow.Author.Needs.{needs}
+use Rattle.report.specs.Report.{lineText}
+use Rattle.report.proofs.Laws.{unwritten}
 use Rattle.report.proofs.put_line.Statement.{statement}
 use Rattle.report.proofs.put_line.Tie as tie
 
 returns : tie.Need-returns
-returns c =
-    let w = c .before .before .put-began .ensures in
-    rw (c .before .before .before .before .before .y .given .1) w
+returns c = rw (c .before .before .before .before .before .y .given .1) (c .before .before .put-began .ensures)
 
 returns-2 : tie.Need-returns-2
 unfolding lineText

@@ -1,11 +1,12 @@
 -- `report::put_opening` meets its contract: one piece behind the other.
 use Prim.Native.Nat.{_*_}
-use Rattle.report.specs.Report.{wordOpening, spaced, numbers}
-use Rattle.text.proofs.Laws.{after}
-use denote.Ref.{now}
+use mathlib.Core.Path.{_≡_}
 use mathlib.Core.List.{[], _∷_, _++_}
-use native.Mathlib.Omega.{arith}
+use denote.Ref.{now}
 use borrow.Author.Needs.{needs}
+use Rattle.text.proofs.Laws.{after}
+use Rattle.register.specs.Register.{openOn}
+use Rattle.report.specs.Report.{wordOpening, spaced, numbers}
 use Rattle.report.proofs.put_opening.Statement.{statement}
 use Rattle.report.proofs.put_opening.Tie as tie
 
@@ -14,13 +15,14 @@ returns c =
     let a = c .before .before .before .before .before .before .before .before .before .before .before .before .before .before .before .before .before .before .before .before .before .before .before .before .before .args in
     let l = now (a .register) in
     let o = c .before .before .before .before .before .before .before .before .open-on in
-    let to1 = wordOpening ++ (spaced (a .i)) in
-    let to2 = to1 ++ (numbers 6 (a .i * 24) l) in
-    let to3 = to2 ++ (spaced (o .result)) in
-    rw (← o .ensures .0) (
-      after (now (a .out)) (a .at) (to3) (10 ∷ []) (search needs)
-          (after (now (a .out)) (a .at) (to2) (spaced (o .result)) (search needs)
-          (after (now (a .out)) (a .at) (to1) (numbers 6 (a .i * 24) l) (search needs)
+    let toStream = wordOpening ++ spaced (a .i) in
+    let toEnds = toStream ++ numbers 6 (a .i * 24) l in
+    let toOpen = toEnds ++ spaced (o .result) in
+    let same : o .result ≡ openOn (a .i) l = o .ensures .0 in
+    rw (← same) (
+      after (now (a .out)) (a .at) toOpen (10 ∷ []) (search needs)
+          (after (now (a .out)) (a .at) toEnds (spaced (o .result)) (search needs)
+          (after (now (a .out)) (a .at) toStream (numbers 6 (a .i * 24) l) (search needs)
           (after (now (a .out)) (a .at) wordOpening (spaced (a .i)) (search needs)
           (c .before .before .before .before .before .before .before .before .before .before .before .before .before .before .before .before .before .before .before .before .put-word .ensures)
           (c .before .before .before .before .before .before .before .before .before .before .before .before .before .before .before .before .put-spaced .ensures .0))

@@ -1,9 +1,9 @@
 -- `report::put_total` meets its contract: one piece behind the other.
-use Rattle.report.specs.Report.{wordTotal, spaced, numbers}
-use Rattle.text.proofs.Laws.{after}
-use denote.Ref.{now}
 use mathlib.Core.List.{[], _∷_, _++_}
+use denote.Ref.{now}
 use borrow.Author.Needs.{needs}
+use Rattle.text.proofs.Laws.{after}
+use Rattle.report.specs.Report.{wordTotal, spaced, numbers}
 use Rattle.report.proofs.put_total.Statement.{statement}
 use Rattle.report.proofs.put_total.Tie as tie
 
@@ -12,11 +12,11 @@ returns c =
     let a = c .before .before .before .before .before .before .before .before .before .before .before .before .before .before .before .before .before .before .before .before .before .args in
     let l = now (a .register) in
     let o = c .before .before .before .before .before .before .before .before .open-on-all in
-    let to1 = wordTotal ++ (numbers 6 384 l) in
-    let to2 = to1 ++ (spaced (o .result)) in
+    let toEnds = wordTotal ++ numbers 6 384 l in
+    let toOpen = toEnds ++ spaced (o .result) in
     rw (← o .ensures) (
-      after (now (a .out)) (a .at) (to2) (10 ∷ []) (search needs)
-          (after (now (a .out)) (a .at) (to1) (spaced (o .result)) (search needs)
+      after (now (a .out)) (a .at) toOpen (10 ∷ []) (search needs)
+          (after (now (a .out)) (a .at) toEnds (spaced (o .result)) (search needs)
           (after (now (a .out)) (a .at) wordTotal (numbers 6 384 l) (search needs)
           (c .before .before .before .before .before .before .before .before .before .before .before .before .before .before .before .before .put-word .ensures)
           (c .before .before .before .before .before .before .before .before .before .before .before .before .put-numbers .ensures .0))

@@ -1,11 +1,11 @@
 -- `report::put_went` meets its contract: one test after another.
-use Rattle.ledger.specs.Choice.{_⇒_∣_}
-use Rattle.report.proofs.Laws.{unwritten}
-use Rattle.report.specs.Report.{lineText}
-use borrow.Author.Tests.{lt-ltb, le-ltb}
-use denote.Ref.{now}
 use native.Mathlib.Omega.{arith}
+use denote.Ref.{now}
+use borrow.Author.Tests.{lt-ltb, le-ltb}
 use borrow.Author.Needs.{needs}
+use Rattle.ledger.specs.Choice.{_⇒_∣_}
+use Rattle.report.specs.Report.{lineText}
+use Rattle.report.proofs.Laws.{unwritten}
 use Rattle.report.proofs.put_went.Statement.{statement}
 use Rattle.report.proofs.put_went.Tie as tie
 

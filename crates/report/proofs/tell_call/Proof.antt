@@ -1,26 +1,28 @@
 -- `report::tell_call` meets its contract: the lines of the records behind that of the opening.
 use Prim.Native.Nat.{_/_, _%_}
-use Rattle.book.specs.Lines.{openingLines, linesIn}
-use Rattle.report.proofs.Laws.{call-told}
+use native.Mathlib.Omega.{arith}
 use denote.Ref.{now}
 use lib.ListN.{length, length-take}
-use native.Mathlib.Omega.{arith}
 use borrow.Author.Needs.{needs}
+use Rattle.book.specs.Lines.{openingLines, linesIn}
+use Rattle.report.proofs.Laws.{call-told}
 use Rattle.report.proofs.tell_call.Statement.{statement}
 use Rattle.report.proofs.tell_call.Tie as tie
 
 tell-records-requires : tie.Need-tell-records-requires
-tell-records-requires c κs = (search needs, rw (c .start-of .ensures) (omega (arith, length-take (c .before .before .before .before .before .before .before .before .before .before .before .before .before .before .before .args .answer % 65536) (now (c .before .before .before .before .before .before .before .before .before .before .before .before .before .before .before .args .room)))), search needs)
+tell-records-requires c κs =
+    let a = c .before .before .before .before .before .before .before .before .before .before .before .before .before .before .before .args in
+    (search needs, rw (c .before .before .start-of .ensures) (omega (arith, length-take (a .answer % 65536) (now (a .room)))), search needs)
 
 returns : tie.Need-returns
 returns c =
     let a = c .before .before .before .before .before .before .before .before .before .before .before .before .before .before .before .before .before .before .before .before .args in
-    let s = now (c .before .before .before .before .before .start-of .result) in
-    let q = c .before .before .before .before .before .before .before .before .before .before .before .before .before .before .before .input-of .result in
+    let s = c .before .before .before .before .before .before .before .start-of in
+    let q = c .before .before .before .before .before .before .before .before .before .before .before .before .before .before .before .input-of in
     let one = c .before .before .before .before .before .before .before .before .before .before .before .before .tell-opening .ensures in
     let two = c .before .before .before .before .tell-records .ensures in
-    let all = call-told (now (a .out)) (a .at) (now (a .register)) (openingLines (a .answer / 16777216)) (linesIn (length s) q s) (search needs) (one .0) (one .1 .1) (two .0) (two .1 .1) in
-    rw (← c .before .before .before .before .before .start-of .ensures, ← c .before .before .before .before .before .before .before .before .before .before .before .before .before .before .before .input-of .ensures) (all .0, (omega (arith, one .1 .0, two .1 .0), all .1))
+    let all = call-told (now (a .out)) (a .at) (now (a .register)) (openingLines (a .answer / 16777216)) (linesIn (length (now (s .result))) (q .result) (now (s .result))) (search needs) (one .0) (one .1 .1) (two .0) (two .1 .1) in
+    rw (← s .ensures, ← q .ensures) (all .0, (omega (arith, one .1 .0, two .1 .0), all .1))
 
 pub tell-call-spec : {M : Type 1} → statement M
 tell-call-spec =

@@ -1,11 +1,11 @@
 -- `report::tell_opening` meets its contract: the line of the opening, or none.
-use Rattle.register.specs.Register.{enteredAll}
-use Rattle.report.proofs.Laws.{unwritten, opened-text, opened-register}
-use Rattle.report.specs.Report.{allText}
-use denote.Ref.{now}
-use mathlib.Core.Path.{refl}
 use native.Mathlib.Omega.{arith}
+use mathlib.Core.Path.{refl}
+use denote.Ref.{now}
 use borrow.Author.Needs.{needs}
+use Rattle.register.specs.Register.{enteredAll}
+use Rattle.report.specs.Report.{allText}
+use Rattle.report.proofs.Laws.{unwritten, opened-text, opened-register}
 use Rattle.report.proofs.tell_opening.Statement.{statement}
 use Rattle.report.proofs.tell_opening.Tie as tie
 

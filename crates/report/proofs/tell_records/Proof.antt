@@ -1,15 +1,15 @@
 -- `report::tell_records` meets its contract: what is still to be told leads, from where it is, to the same text and register.
 use Prim.Native.Nat.{_+_, _*_, _-_, _≤_}
-use Rattle.book.specs.Lines.{lineAt, linesIn}
-use Rattle.report.proofs.Laws.{record-most, Telling, all-telling, less-telling, none-telling}
-use Rattle.report.specs.Report.{lineText}
-use Rattle.transcript.proofs.Laws.{size-within}
+use native.Mathlib.Omega.{arith}
+use mathlib.Core.Path.{_≡_, refl, ap, _∙_}
 use denote.Ref.{now}
 use lib.ListN.{length, getD, take, drop, length-drop}
 use lib.Seq.{take-all}
-use mathlib.Core.Path.{_≡_, refl, ap, _∙_}
-use native.Mathlib.Omega.{arith}
 use borrow.Author.Needs.{needs}
+use Rattle.transcript.proofs.Laws.{size-within}
+use Rattle.book.specs.Lines.{lineAt, linesIn}
+use Rattle.report.specs.Report.{lineText}
+use Rattle.report.proofs.Laws.{record-most, Telling, all-telling, less-telling, none-telling}
 use Rattle.report.proofs.tell_records.Statement.{statement}
 use Rattle.report.proofs.tell_records.Tie as tie
 
