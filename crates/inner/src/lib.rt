@@ -1,13 +1,62 @@
-// The call without the test of soundness, for measuring it beside the others. No part of the library for C.
+// Calls without the test of soundness, for measuring them beside the others: a run over a whole capture, from a fresh table.
+// No part of the library for C.
 ghost use mathlib.Core.Path.{_≡_};
 ghost use mathlib.Core.Bool.{true};
+ghost use Prim.Native.Nat.{_<_, _≤_};
+ghost use lib.ListN.{length};
 ghost use Rattle.image.specs.Layout.{soundImage};
-ghost use Rattle.outcomes.specs.Leaving.{left, callOf};
+ghost use Rattle.inner.specs.Run.{ran, callOn, isRefused, passed, runFrom, runOf};
 
-#[no_mangle]
-pub extern "C" fn inner_call(table: &mut [u8], bytes: &[u8], room: &mut [u8]) -> u32
+const NO_TABLE: u64 = 0xffffffffffffffff;
+
+// One call, and whether it was refused.
+fn one_call(table: &mut [u8], bytes: &[u8]) -> bool
     requires { ⌜ soundImage (now table) ≡ true ⌝ }
-    ensures { λ n. ⌜ left n (now (table .exit)) (now (room .exit)) ≡ callOf (now (table .entry)) (now (bytes .entry)) (now (room .entry)) ⌝ }
+    ensures { λ r. ⌜ (now (table .exit) ≡ callOn (now (table .entry)) (now (bytes .entry)) .image) × (soundImage (now (table .exit)) ≡ true) ⌝ }
+    ensures { λ r. ⌜ r ≡ isRefused (callOn (now (table .entry)) (now (bytes .entry))) ⌝ }
 {
-    engine::call_sound(table, bytes, room)
+    let mut room = [0u8; 128];
+    let answer = engine::call_sound(table, bytes, &mut room);
+    0 < answer / 65536 % 256
+}
+
+// Reading goes on behind the record; where its size is 0, it ends.
+fn passed(bytes: &[u8]) -> usize
+    requires { ⌜ 0 < length (now bytes) ⌝ }
+    ensures { λ n. ⌜ (n ≡ passed (now (bytes .entry))) × (0 < n) × (n ≤ length (now (bytes .entry))) ⌝ }
+{
+    let size = records::record_size(bytes);
+    if size == 0 {
+        return bytes.len();
+    }
+    size
+}
+
+// Call after call, until no byte is left.
+fn run(table: &mut [u8], capture: &[u8]) -> u64
+    requires { ⌜ soundImage (now table) ≡ true ⌝ }
+    ensures { λ n. ⌜ ran n (now (table .exit)) ≡ runFrom (length (now (capture .entry))) (now (table .entry)) 0 (now (capture .entry)) ⌝ }
+{
+    let mut refused: u64 = 0;
+    let mut at: usize = 0;
+    while at < capture.len() {
+        let bytes = &capture[at..];
+        if one_call(table, bytes) {
+            refused += 1;
+        }
+        at += passed(bytes);
+    }
+    refused
+}
+
+// How many calls of the run over a capture were refused, or that the lent table has not the size of one.
+#[no_mangle]
+pub extern "C" fn inner_run(table: &mut [u8], capture: &[u8]) -> u64
+    ensures { λ n. ⌜ ran n (now (table .exit)) ≡ runOf (now (table .entry)) (now (capture .entry)) ⌝ }
+{
+    if table.len() != 760 {
+        return NO_TABLE;
+    }
+    image::make_fresh(table);
+    run(table, capture)
 }

@@ -1,0 +1,46 @@
+-- The run over a capture: one call for each record, and how many of them were refused.
+use Prim.Native.Nat.{ℕ, zero, suc, _+_, _/_, _%_}
+use mathlib.Core.Bool.{Bool}
+use mathlib.Core.List.{List}
+use lib.Dec.{eqb, ltb}
+use lib.ListN.{length, drop, replicate}
+use Rattle.ledger.specs.Choice.{_⇒_∣_}
+use Rattle.ledger.specs.Tally.{oneIf}
+use Rattle.paper.specs.Base.{fresh}
+use Rattle.paper.specs.RecordsIn.{recordSize}
+use Rattle.image.specs.Layout.{imageOf}
+use Rattle.outcomes.specs.Leaving.{Left, callOf}
+
+-- The number that a run gives, and the image that it leaves.
+pub record Ran : Type 0 where
+  pub number : ℕ
+  pub image : List ℕ
+
+abbrev pub ran : ℕ → List ℕ → Ran
+ran n img = record { number = n; image = img }
+
+-- A call is lent all bytes not read yet, and a room of zeros.
+abbrev pub callOn : List ℕ → List ℕ → Left
+callOn img bytes = callOf img bytes (replicate 128 0)
+
+abbrev pub isRefused : Left → Bool
+isRefused l = ltb 0 (l .number / 65536 % 256)
+
+-- How many bytes are read: the record, or all where its size is 0.
+unfoldable pub passed : List ℕ → ℕ
+passed bytes = eqb (recordSize bytes) 0 ⇒ length bytes ∣ recordSize bytes
+
+-- From an image and a count on. A call reads a byte at least, so as many calls as there are bytes suffice.
+unfoldable pub runFrom : ℕ → List ℕ → ℕ → List ℕ → Ran
+runFrom zero img n bytes = ran n img
+runFrom (suc calls) img n bytes =
+    eqb (length bytes) 0 ⇒ ran n img
+    ∣ runFrom calls (callOn img bytes .image) (n + oneIf (isRefused (callOn img bytes))) (drop (passed bytes) bytes)
+
+-- The number that says that the lent table has not the size of one.
+abbrev pub noTable : ℕ
+noTable = 18446744073709551615
+
+-- The run, whole: from a fresh table.
+unfoldable pub runOf : List ℕ → List ℕ → Ran
+runOf img bytes = eqb (length img) 760 ⇒ runFrom (length bytes) (imageOf fresh) 0 bytes ∣ ran noTable img
