@@ -5,6 +5,7 @@
 #include "clock.h"
 #include "compare.h"
 #include "fill.h"
+#include "inner.h"
 #include "print.h"
 #include "provider.h"
 
@@ -50,16 +51,29 @@ static bool compare_all(struct capture *capture)
 
 /* --- Timing */
 
-static double seconds_of_calls(const struct provider *provider, const struct capture *capture)
+static double seconds_of_calls(const struct caller *caller, const struct capture *capture)
 {
     uint8_t table[PROVIDER_TABLE];
     uint8_t room[PROVIDER_ROOM];
-    (void)provider->fresh(table, sizeof table);
+    (void)caller->fresh(table, sizeof table);
     double start = clock_processor();
     for (size_t call = 0; call < capture->calls; call++)
-        (void)provider->call(table, sizeof table, capture_record(capture, call), capture_record_size(capture, call),
-                             room, sizeof room);
+        (void)caller->call(table, sizeof table, capture_record(capture, call), capture_record_size(capture, call),
+                           room, sizeof room);
     return clock_processor() - start;
+}
+
+static double seconds_of_run(const struct capture *capture)
+{
+    uint8_t table[PROVIDER_TABLE];
+    double start = clock_processor();
+    (void)inner_run(table, sizeof table, capture->bytes, capture_size(capture));
+    return clock_processor() - start;
+}
+
+static double seconds_of(unsigned provider, const struct capture *capture)
+{
+    return provider == INNER ? seconds_of_run(capture) : seconds_of_calls(&callers[provider], capture);
 }
 
 /* The providers take turns, so that a busy machine hits all alike. The first round only warms up. */
@@ -67,7 +81,7 @@ static void time_calls(const struct capture *capture, struct times times[PROVIDE
 {
     for (unsigned round = 0; round <= ROUNDS; round++)
         for (unsigned i = 0; i < PROVIDERS; i++) {
-            double seconds = seconds_of_calls(&providers[i], capture);
+            double seconds = seconds_of(i, capture);
             if (round > 0)
                 times_add(&times[i], seconds);
         }

@@ -6,27 +6,28 @@
 
 #include "../generate/image.h"
 #include "../kungthevi.h"
+#include "inner.h"
 #include "provider.h"
 
-/* What is lent to a provider, and the number it returned last. */
+/* What is lent to a caller, and the number it returned last. */
 struct loan {
     uint32_t answer;
     uint8_t table[PROVIDER_TABLE];
     uint8_t room[PROVIDER_ROOM];
 };
 
-static void start(struct loan loans[PROVIDERS])
+static void start(struct loan loans[CALLERS])
 {
-    memset(loans, 0, PROVIDERS * sizeof *loans);
-    for (unsigned i = 0; i < PROVIDERS; i++)
-        loans[i].answer = providers[i].fresh(loans[i].table, PROVIDER_TABLE);
+    memset(loans, 0, CALLERS * sizeof *loans);
+    for (unsigned i = 0; i < CALLERS; i++)
+        loans[i].answer = callers[i].fresh(loans[i].table, PROVIDER_TABLE);
 }
 
-static void make_call(struct loan loans[PROVIDERS], const uint8_t *record, size_t size)
+static void make_call(struct loan loans[CALLERS], const uint8_t *record, size_t size)
 {
-    for (unsigned i = 0; i < PROVIDERS; i++) {
+    for (unsigned i = 0; i < CALLERS; i++) {
         struct loan *loan = &loans[i];
-        loan->answer = providers[i].call(loan->table, PROVIDER_TABLE, record, size, loan->room, PROVIDER_ROOM);
+        loan->answer = callers[i].call(loan->table, PROVIDER_TABLE, record, size, loan->room, PROVIDER_ROOM);
     }
 }
 
@@ -37,11 +38,11 @@ static bool is_alike(const struct loan *left, const struct loan *right)
            memcmp(left->room, right->room, PROVIDER_ROOM) == 0;
 }
 
-/* A provider whose loan is not as that of the second program, or PROVIDERS. */
-static unsigned find_unlike(const struct loan loans[PROVIDERS])
+/* A caller whose loan is not as that of the second program, or CALLERS. */
+static unsigned find_unlike(const struct loan loans[CALLERS])
 {
     unsigned i = 0;
-    while (i < PROVIDERS && is_alike(&loans[i], &loans[SECOND]))
+    while (i < CALLERS && is_alike(&loans[i], &loans[SECOND]))
         i++;
     return i;
 }
@@ -66,21 +67,34 @@ static void sum_after(struct summary *summary, const struct loan *loan)
     summary->ppas = image_ppas(loan->table);
 }
 
+/* Whether inner, from a table that is not fresh, refuses as many calls and leaves the same table. */
+static bool is_run_alike(const struct capture *capture, uint64_t refused, const uint8_t *table)
+{
+    uint8_t own[PROVIDER_TABLE];
+    memset(own, 0xff, sizeof own);
+    return inner_run(own, sizeof own, capture->bytes, capture_size(capture)) == refused &&
+           memcmp(own, table, sizeof own) == 0;
+}
+
 bool compare_providers(const char *name, const struct capture *capture, struct summary *summary)
 {
-    struct loan loans[PROVIDERS];
+    struct loan loans[CALLERS];
     *summary = (struct summary){ 0 };
     start(loans);
     for (size_t call = 0; call < capture->calls; call++) {
         sum_before(summary, loans[SECOND].table);
         make_call(loans, capture_record(capture, call), capture_record_size(capture, call));
         unsigned unlike = find_unlike(loans);
-        if (unlike != PROVIDERS) {
-            fprintf(stderr, "bench: %s, call %zu: %s and %s differ\n", name, call + 1, providers[unlike].name,
-                    providers[SECOND].name);
+        if (unlike != CALLERS) {
+            fprintf(stderr, "bench: %s, call %zu: %s and %s differ\n", name, call + 1, provider_names[unlike],
+                    provider_names[SECOND]);
             return false;
         }
         sum_after(summary, &loans[SECOND]);
+    }
+    if (!is_run_alike(capture, summary->refused, loans[SECOND].table)) {
+        fprintf(stderr, "bench: %s: %s and %s differ\n", name, provider_names[INNER], provider_names[SECOND]);
+        return false;
     }
     return true;
 }

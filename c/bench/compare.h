@@ -13,8 +13,9 @@ struct summary {
     uint64_t open_indications; /* likewise */
 };
 
-/* Makes each call of the capture by each provider, from a fresh table. Returns whether the numbers returned, the
- * tables and the rooms are the same after every call, and if not, says on standard error where. */
+/* Makes each call of the capture by each caller, from a fresh table, and then the run of inner. Returns whether the
+ * numbers returned, the tables and the rooms are the same after every call, and the refused calls and the table at the
+ * end of the run; if not, says on standard error where. */
 bool compare_providers(const char *name, const struct capture *capture, struct summary *summary);
 
 #endif

@@ -1,16 +1,13 @@
-/* The library's call without its soundness test; link libinner.a.
- *
- * Only for a table that is sound. Those that calls make from a fresh table are; what a call on any other table
- * does, nobody says. */
+/* The library's calls without their soundness test, over a whole capture; link libinner.a. */
 #ifndef BENCH_INNER_H
 #define BENCH_INNER_H
 
 #include <stddef.h>
 #include <stdint.h>
 
-/* As kungthevi_call, save that refusal 16 is never given. */
-uint32_t inner_call(uint8_t *table, size_t table_len,
-                    const uint8_t *record, size_t record_len,
-                    uint8_t *room, size_t room_len);
+/* Makes the table fresh, whatever it holds, then one call for each record, each with a room of 128 zeros of its own.
+ * The last call is that on the last record, or on the first one that is cut or of an unknown kind. Returns how many
+ * calls were refused. A table that is not 760 bytes long is left as it is, and 2^64 - 1 returned. */
+uint64_t inner_run(uint8_t *table, size_t table_len, const uint8_t *capture, size_t capture_len);
 
 #endif

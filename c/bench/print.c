@@ -35,7 +35,7 @@ void print_machine(void)
 
 void print_captures_heading(void)
 {
-    printf("\nCaptures, compared call by call over all providers\n\n");
+    printf("\nCaptures, compared call by call; inner by its refused calls and its table at the end\n\n");
     printf("%-24s %7s %8s %5s %13s %17s %8s %7s", "capture", "calls", "bytes", "PPAs", "open streams",
            "open indications", "refused", "errors");
     end_line();
@@ -65,7 +65,7 @@ void print_calls(const char *name, size_t calls, const struct times times[PROVID
 {
     for (unsigned i = 0; i < PROVIDERS; i++) {
         double best = times_best(&times[i]);
-        printf("%-24s %-8s %10.0f %10.0f %15.0f %13.2f", i == 0 ? name : "", providers[i].name,
+        printf("%-24s %-8s %10.0f %10.0f %15.0f %13.2f", i == 0 ? name : "", provider_names[i],
                best / (double)calls * 1e9, times_median(&times[i]) / (double)calls * 1e9, (double)calls / best,
                times_best(&times[SECOND]) / best);
         end_line();

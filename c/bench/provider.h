@@ -11,22 +11,23 @@ enum {
     PROVIDER_ROOM = 128
 };
 
-struct provider {
-    const char *name;
+/* Callers are called record by record; inner runs over a whole capture. Ratios are to the second program. */
+enum {
+    LIBRARY,
+    SECOND,
+    CALLERS,
+    INNER = CALLERS,
+    PROVIDERS
+};
+
+struct caller {
     uint32_t (*fresh)(uint8_t *table, size_t table_len);
     uint32_t (*call)(uint8_t *table, size_t table_len,
                      const uint8_t *record, size_t record_len,
                      uint8_t *room, size_t room_len);
 };
 
-/* Ratios are to the second program. */
-enum {
-    LIBRARY,
-    SECOND,
-    INNER,
-    PROVIDERS
-};
-
-extern const struct provider providers[PROVIDERS];
+extern const struct caller callers[CALLERS];
+extern const char *const provider_names[PROVIDERS];
 
 #endif
