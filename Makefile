@@ -43,7 +43,7 @@ BENCH = $(wildcard c/bench/*.c)
 HEADERS = $(wildcard c/*.h c/*/*.h c/*/*/*.h)
 CAPTURES = $(patsubst captures/%.records,target/captures/%,$(wildcard captures/*.records))
 
-.PHONY: all check demo replay run lib c sanitized example captures texts alike definitions entries harness selftest coverage \
+.PHONY: all check demo replay fates run lib c sanitized example captures texts alike definitions entries harness selftest coverage \
 	compare bench instructions paper clean
 
 all: c captures
@@ -53,16 +53,17 @@ check:
 	.ci/run
 
 # the measured example of the rule paper, and what became of four cranes that rang in at once
-demo: $(REPLAY) target/c/kungthevi target/captures/measured target/captures/four-cranes-and-what-became-of-each
+demo: $(REPLAY) $(FATES) target/c/kungthevi target/captures/measured target/captures/four-cranes-and-what-became-of-each
 	$(REPLAY) < target/captures/measured
 	target/c/kungthevi replay target/captures/four-cranes-and-what-became-of-each || test $$? -eq 1
+	$(FATES) < target/captures/four-cranes-and-what-became-of-each
 
 # one capture: its bytes, or their readable form
-replay: $(REPLAY)
+replay fates: %: target/run/%
 	@case "$(FILE)" in \
-	*.records) python3 captures/assemble.py "$(FILE)" | $(REPLAY) ;; \
-	?*) $(REPLAY) < "$(FILE)" ;; \
-	*) echo 'usage: make replay FILE=capture' >&2; exit 2 ;; esac
+	*.records) python3 captures/assemble.py "$(FILE)" | target/run/$@ ;; \
+	?*) target/run/$@ < "$(FILE)" ;; \
+	*) echo 'usage: make $@ FILE=capture' >&2; exit 2 ;; esac
 
 # ---- what is proved
 

@@ -17,7 +17,7 @@ use Rattle.paper.specs.Refusals.{Outcome, refused}
 use Rattle.paper.specs.Step.{step}
 use Rattle.image.specs.Layout.{imageOf, tableOf, tidy, soundImage}
 use Rattle.image.proofs.TableBack.{table-back}
-use Rattle.outcomes.specs.Leaving.{Left, leaving, callOf}
+use Rattle.outcomes.specs.Leaving.{Left, leaving, callOf, made}
 use Rattle.book.specs.declared.Line.{Line}
 use Rattle.book.specs.Lines.{linesIn, linesOf}
 use Rattle.register.specs.Register.{blank, entered, enteredAll}
@@ -29,7 +29,7 @@ use Rattle.promises.proofs.Lent.{shaped}
 use Rattle.promises.proofs.Refused.{refusal-is-all}
 use Rattle.promises.proofs.Room.{room-enough}
 use Rattle.promises.proofs.Steps.{good}
-use Rattle.fates.specs.Told.{Told, made, linesBy}
+use Rattle.fates.specs.Told.{Told, linesBy}
 
 -- ---- what a call says, by its number and the room that it left
 

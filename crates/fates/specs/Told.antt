@@ -2,10 +2,10 @@
 use Prim.Native.Nat.{ℕ, _/_, _%_}
 use mathlib.Core.Path.{_≡_}
 use mathlib.Core.List.{List}
-use lib.ListN.{take, replicate}
+use lib.ListN.{take}
 use Rattle.paper.specs.Base.{fresh}
 use Rattle.image.specs.Layout.{imageOf}
-use Rattle.outcomes.specs.Leaving.{Left, callOf}
+use Rattle.outcomes.specs.Leaving.{Left}
 use Rattle.book.specs.declared.Line.{Line}
 use Rattle.book.specs.Lines.{linesOf}
 use Rattle.register.specs.Register.{blank, enteredAll}
@@ -16,9 +16,6 @@ pub record Told (img register : List ℕ) : Type 0 where
   pub table : img ≡ imageOf (run fresh calls)
   pub entered : register ≡ enteredAll (lines (history fresh calls)) blank
 
--- a call from a room of zeros, and its lines: of the record lent, the token and the bytes written
-abbrev pub made : List ℕ → List ℕ → Left
-made img r = callOf img r (replicate 128 0)
-
+-- what a call says: of the record lent, the token and the bytes written
 abbrev pub linesBy : List ℕ → Left → List Line
 linesBy r l = linesOf r (l .number / 16777216) (take (l .number % 65536) (l .room))

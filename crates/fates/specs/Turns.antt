@@ -5,13 +5,13 @@ use mathlib.Core.List.{List}
 use lib.ListN.{length}
 use Rattle.ledger.specs.Choice.{_⇒_∣_}
 use Rattle.octets.specs.Runs.{paste}
-use Rattle.outcomes.specs.Leaving.{Left}
+use Rattle.outcomes.specs.Leaving.{Left, made}
 use Rattle.book.specs.declared.Line.{Line}
 use Rattle.register.specs.Register.{enteredAll}
 use Rattle.report.specs.Report.{allText}
 use Rattle.turns.specs.Turns.{unread, waits, isOver, stopping, afterCall}
 use Rattle.turns.specs.declared.Turn.{Turn}
-use Rattle.fates.specs.Told.{made, linesBy}
+use Rattle.fates.specs.Told.{linesBy}
 
 -- The call is lent what is not read yet; its lines are entered, and their text goes behind what is printed already.
 abbrev pub callOn : List ℕ → List ℕ → Turn → Left

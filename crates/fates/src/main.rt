@@ -6,7 +6,8 @@ ghost use Rattle.octets.specs.Runs.{paste};
 ghost use Rattle.register.specs.Register.{enteredAll};
 ghost use Rattle.report.specs.Report.{allText};
 ghost use Rattle.turns.specs.Turns.{Fine, Ready};
-ghost use Rattle.fates.specs.Told.{Told, made, linesBy};
+ghost use Rattle.outcomes.specs.Leaving.{made};
+ghost use Rattle.fates.specs.Told.{Told, linesBy};
 ghost use Rattle.fates.specs.Turns.{callOn, linesOn, textOn, called, turnAfter, tableAfter, registerAfter, outputAfter};
 use turns::Turn;
 

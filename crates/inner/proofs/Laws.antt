@@ -1,5 +1,4 @@
--- Laws of the run: it starts from a sound image; a call reads a byte at least and none past the end; what is ahead after
--- one call more.
+-- Laws of the run: a call reads a byte at least; what is ahead after one call more.
 use Prim.Native.Nat.{ℕ, zero, suc, _+_, _≤_, _<_}
 use native.Mathlib.Omega.{arith}
 use mathlib.Core.Path.{_≡_, sym, ap, _∙_}
@@ -16,14 +15,8 @@ use Rattle.paper.specs.RecordsIn.{recordSize}
 use Rattle.image.specs.Layout.{imageOf, soundImage}
 use Rattle.promises.proofs.Images.{image-sound}
 use Rattle.promises.proofs.Steps.{fresh-sound}
-use Rattle.inner.specs.Run.{Ran, ran, callOn, isRefused, passed, runFrom}
-
-pub sound-fresh : (img : List ℕ) → img ≡ imageOf fresh → soundImage img ≡ true
-sound-fresh img e = ap soundImage e ∙ image-sound fresh fresh-sound
-
-pub record-within : (bytes : List ℕ) → recordSize bytes ≤ length bytes
-unfolding recordSize
-record-within bytes = chosen (λ (n : ℕ). n ≤ length bytes) _ _ _ (λ e. leb-true _ _ e) (λ e. omega arith)
+use Rattle.outcomes.specs.Leaving.{made, isRefused}
+use Rattle.inner.specs.Run.{Ran, ran, passed, runFrom}
 
 pub passed-some : (bytes : List ℕ) → 0 < length bytes → 0 < passed bytes
 unfolding passed
@@ -36,7 +29,7 @@ pub record Ahead (capture img : List ℕ) (n at : ℕ) (end : Ran) : Type 0 wher
   pub same : runFrom calls img n (drop at capture) ≡ end
 
 pub ahead-more : (capture img bytes : List ℕ) (n at : ℕ) (end : Ran) → at < length capture → bytes ≡ drop at capture → Ahead capture img n at end
-    → Ahead capture (callOn img bytes .image) (n + oneIf (isRefused (callOn img bytes))) (at + passed bytes) end
+    → Ahead capture (made img bytes .image) (n + oneIf (isRefused (made img bytes))) (at + passed bytes) end
 unfolding runFrom
 ahead-more capture img bytes n at end h b a = go (a .calls) (a .enough) (rw (← b) at (a .same))
   where
@@ -44,13 +37,13 @@ ahead-more capture img bytes n at end h b a = go (a .calls) (a .enough) (rw (←
     size = omega (arith, ap length b, length-drop at capture)
 
     go : (calls : ℕ) → length capture ≤ at + calls → runFrom calls img n bytes ≡ end
-        → Ahead capture (callOn img bytes .image) (n + oneIf (isRefused (callOn img bytes))) (at + passed bytes) end
+        → Ahead capture (made img bytes .image) (n + oneIf (isRefused (made img bytes))) (at + passed bytes) end
     go zero k e = absurd (omega arith)
     go (suc calls) k e = record {
       calls = calls;
       enough = omega (arith, passed-some bytes size);
       same =
-          ap (runFrom calls (callOn img bytes .image) (n + oneIf (isRefused (callOn img bytes)))) (sym (drop-drop (passed bytes) at capture) ∙ ap (drop (passed bytes)) (sym b))
+          ap (runFrom calls (made img bytes .image) (n + oneIf (isRefused (made img bytes)))) (sym (drop-drop (passed bytes) at capture) ∙ ap (drop (passed bytes)) (sym b))
           ∙ sym (skip _ _ _ (ne-eqb (length bytes) 0 (λ z. omega (arith, size)))) ∙ e;
     }
 

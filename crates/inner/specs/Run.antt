@@ -9,7 +9,7 @@ use Rattle.ledger.specs.Tally.{oneIf}
 use Rattle.paper.specs.Base.{fresh}
 use Rattle.paper.specs.RecordsIn.{recordSize}
 use Rattle.image.specs.Layout.{imageOf}
-use Rattle.outcomes.specs.Leaving.{Left, callOf}
+use Rattle.outcomes.specs.Leaving.{made, isRefused}
 
 -- The number that a run gives, and the image that it leaves.
 pub record Ran : Type 0 where
@@ -19,23 +19,16 @@ pub record Ran : Type 0 where
 abbrev pub ran : ℕ → List ℕ → Ran
 ran n img = record { number = n; image = img }
 
--- A call is lent all bytes not read yet, and a room of zeros.
-abbrev pub callOn : List ℕ → List ℕ → Left
-callOn img bytes = callOf img bytes (replicate 128 0)
-
-abbrev pub isRefused : Left → Bool
-isRefused l = ltb 0 (l .number / 65536 % 256)
-
 -- How many bytes are read: the record, or all where its size is 0.
 unfoldable pub passed : List ℕ → ℕ
 passed bytes = eqb (recordSize bytes) 0 ⇒ length bytes ∣ recordSize bytes
 
--- From an image and a count on. A call reads a byte at least, so as many calls as there are bytes suffice.
+-- From an image and a count on. A call is lent all bytes not read yet, and reads a byte at least, so as many calls as there are bytes suffice.
 unfoldable pub runFrom : ℕ → List ℕ → ℕ → List ℕ → Ran
 runFrom zero img n bytes = ran n img
 runFrom (suc calls) img n bytes =
     eqb (length bytes) 0 ⇒ ran n img
-    ∣ runFrom calls (callOn img bytes .image) (n + oneIf (isRefused (callOn img bytes))) (drop (passed bytes) bytes)
+    ∣ runFrom calls (made img bytes .image) (n + oneIf (isRefused (made img bytes))) (drop (passed bytes) bytes)
 
 -- The number that says that the lent table has not the size of one.
 abbrev pub noTable : ℕ

@@ -1,8 +1,8 @@
 -- What a call leaves: its number, the lent image and the lent room.
-use Prim.Native.Nat.{ℕ, _+_, _*_}
-use mathlib.Core.Bool.{not}
+use Prim.Native.Nat.{ℕ, _+_, _*_, _/_, _%_}
+use mathlib.Core.Bool.{Bool, not}
 use mathlib.Core.List.{List}
-use lib.ListN.{length}
+use lib.ListN.{length, replicate}
 use lib.Dec.{ltb}
 use Rattle.ledger.specs.Choice.{_⇒_∣_}
 use Rattle.octets.specs.Runs.{over}
@@ -37,3 +37,11 @@ leaving img room o =
 -- The call, whole, on the image, the record and the room that it is lent. An image that is not one of a table is not sound.
 unfoldable pub callOf : List ℕ → List ℕ → List ℕ → Left
 callOf img r room = not (tidy img) ⇒ left (refusing notSound) img room ∣ leaving img room (step (tableOf img) r (length room))
+
+-- ---- as the programs make it: with a room of 128 zeros
+
+abbrev pub made : List ℕ → List ℕ → Left
+made img r = callOf img r (replicate 128 0)
+
+abbrev pub isRefused : Left → Bool
+isRefused l = ltb 0 (l .number / 65536 % 256)

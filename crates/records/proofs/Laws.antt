@@ -64,3 +64,8 @@ adds-long r p e = subst (λ (q : Input). leastSize q ≤ length r) e (read-long 
 
 pub calls-long : (r : List ℕ) (p : PpaNumber) (sap : ℕ) → inputOf r ≡ input.CallArrives p sap → 19 ≤ length r
 calls-long r p sap e = subst (λ (q : Input). leastSize q ≤ length r) e (read-long r)
+
+-- a record lies within the bytes that it starts
+pub record-within : (r : List ℕ) → recordSize r ≤ length r
+unfolding recordSize
+record-within r = chosen (λ (n : ℕ). n ≤ length r) _ _ _ (λ e. leb-true _ _ e) (λ e. omega arith)

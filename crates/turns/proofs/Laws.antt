@@ -1,4 +1,4 @@
--- Laws of turns: a record lies within the bytes that it starts; what reading on keeps.
+-- Laws of turns: what reading on keeps.
 use Prim.Native.Nat.{ℕ, _+_, _-_, _≤_}
 use native.Mathlib.Omega.{arith}
 use mathlib.Core.Path.{_≡_, _∙_}
@@ -14,10 +14,6 @@ use Rattle.octets.specs.Runs.{paste}
 use Rattle.paper.specs.RecordsIn.{recordSize}
 use Rattle.turns.specs.Turns.{isOver}
 use Rattle.turns.specs.declared.Turn.{Turn}
-
-pub record-within : (r : List ℕ) → recordSize r ≤ length r
-unfolding recordSize
-record-within r = chosen (λ (n : ℕ). n ≤ length r) _ _ _ (λ e. leb-true _ _ e) (λ e. omega arith)
 
 -- where the calls are not over there is a next number
 pub not-over : (t : Turn) → isOver t ≡ false → t .calls ≡ 18446744073709551615 → ⊥

@@ -1,9 +1,11 @@
 -- `inner::inner_run` meets its contract: a fresh table is sound.
+use mathlib.Core.Path.{ap, _∙_}
 use borrow.Author.Needs.{needs}
 use borrow.Author.Tests.{eq-eqb, ne-eqb}
 use Rattle.ledger.specs.Choice.{_⇒_∣_}
 use Rattle.inner.specs.Run.{runOf}
-use Rattle.inner.proofs.Laws.{sound-fresh}
+use Rattle.image.specs.Layout.{soundImage}
+use Rattle.promises.proofs.Images.{fresh-image}
 use Rattle.inner.proofs.inner_run.Statement.{statement}
 use Rattle.inner.proofs.inner_run.Tie as tie
 
@@ -12,7 +14,7 @@ unfolding runOf _⇒_∣_
 returns c = rw (ne-eqb _ 760 (c .if1 .taken))
 
 run-requires : tie.Need-run-requires
-run-requires c κs = sound-fresh _ (search needs)
+run-requires c κs = ap soundImage (search needs) ∙ fresh-image
 
 returns-2 : tie.Need-returns-2
 unfolding runOf _⇒_∣_
