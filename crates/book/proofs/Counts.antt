@@ -13,7 +13,7 @@ use Rattle.book.specs.declared.End.{End}
 use Rattle.book.specs.declared.End.the-variants.{Accepted, Denied, Withdrawn, Dropped}
 use Rattle.book.specs.declared.Line.{Line}
 use Rattle.book.specs.declared.Line.the-variants.{Began, Came, Went, Given, Nothing}
-use Rattle.book.specs.Book.{Fate, stillOpen, met, Opening, isStillOpen, countOf, openOf, mark, noted, newest, onNewest, post, posts, bump, tallyLine, tallies, counted, countIn, openCount, leftOpen}
+use Rattle.book.specs.Book.{Fate, stillOpen, met, Opening, isStillOpen, countOf, openOf, mark, noted, newest, onNewest, post, posts, bump, tallyLine, tallies, countsAs, countIn, openCount, leftOpen}
 use Rattle.ledger.proofs.Tallies.{both-of}
 use Rattle.book.proofs.Sums.{pick-to}
 use Rattle.book.proofs.Shades.{shade, fair, fairs, open-post}
@@ -24,7 +24,7 @@ balance [] = refl
 balance (e ∷ o) = go (e .fate) (balance o)
   where
     go : (q : Fate) → countIn 0 o ≡ countIn 1 o + countIn 2 o + countIn 3 o + countIn 4 o + length (openOf o)
-        → counted 0 q + countIn 0 o ≡ counted 1 q + countIn 1 o + (counted 2 q + countIn 2 o) + (counted 3 q + countIn 3 o) + (counted 4 q + countIn 4 o) + length (pick (isStillOpen q) (e .number ∷ openOf o) (openOf o))
+        → countsAs 0 q + countIn 0 o ≡ countsAs 1 q + countIn 1 o + (countsAs 2 q + countIn 2 o) + (countsAs 3 q + countIn 3 o) + (countsAs 4 q + countIn 4 o) + length (pick (isStillOpen q) (e .number ∷ openOf o) (openOf o))
     go stillOpen r = omega arith
     go (met Accepted) r = omega arith
     go (met Denied) r = omega arith

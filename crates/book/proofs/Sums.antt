@@ -62,14 +62,6 @@ module _ {A : Type 0} (f : A → ℕ) (d : A) where
   sum-two z (y ∷ l) (suc i) zero h = omega (arith, sum-at z l i)
   sum-two z (y ∷ l) (suc i) (suc j) h = omega (arith, sum-two z l i j (λ e. h (ap suc e)))
 
--- every place of a list with one element replaced: that one, or one from before
-pub each-put : {A : Type 0} (P : A → Type 0) (d : A) (l : List A) (i : ℕ) (x : A) → P x → ((j : ℕ) → P (getD l j d)) → (j : ℕ) → P (getD (set l i x) j d)
-each-put P d [] i x p h j = h j
-each-put P d (y ∷ l) zero x p h zero = p
-each-put P d (y ∷ l) zero x p h (suc j) = h (suc j)
-each-put P d (y ∷ l) (suc i) x p h zero = h zero
-each-put P d (y ∷ l) (suc i) x p h (suc j) = each-put P d l i x p (λ j. h (suc j)) j
-
 -- ---- a list with one element replaced, as seen from any place
 module _ {A B : Type 0} (f : A → B) (d : A) where
   pub put-in : (h : B → B) (l : List A) (i s : ℕ) (x : A) → i < length l → f x ≡ h (f (getD l i d)) → f (getD (set l i x) s d) ≡ pick (eqb s i) (h (f (getD l s d))) (f (getD l s d))
@@ -137,10 +129,3 @@ to-asks false b h = refl
 -- a number of a list has what each of the list has
 pub among : (p : ℕ → Bool) (n : ℕ) (l : List ℕ) → allOf p l ≡ true → has n l ≡ true → p n ≡ true
 among p n l a h = all-occ p n l a (ltb-true 0 (occ n l) h)
-
--- every place of a list with one element more behind it
-pub each-append : {A : Type 0} (P : A → Type 0) (d : A) (l : List A) (x : A) → P x → ((j : ℕ) → P (getD l j d)) → (j : ℕ) → P (getD (l ++ (x ∷ [])) j d)
-each-append P d [] x p h zero = p
-each-append P d [] x p h (suc j) = h (suc j)
-each-append P d (y ∷ l) x p h zero = h zero
-each-append P d (y ∷ l) x p h (suc j) = each-append P d l x p (λ j. h (suc j)) j

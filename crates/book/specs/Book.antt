@@ -101,12 +101,12 @@ tallies k s [] ts = ts
 tallies k s (y ∷ ys) ts = tallies k s ys (tallyLine k s y ts)
 
 -- the same counts, of the fates of an opening
-abbrev pub counted : ℕ → Fate → ℕ
-counted k stillOpen = oneIf (eqb k 0)
-counted k (met e) = oneIf (eqb k 0) + oneIf (eqb k (countOf e))
+abbrev pub countsAs : ℕ → Fate → ℕ
+countsAs k stillOpen = oneIf (eqb k 0)
+countsAs k (met e) = oneIf (eqb k 0) + oneIf (eqb k (countOf e))
 
 abbrev pub countIn : ℕ → Opening → ℕ
-countIn k o = sumOf (λ (x : Indication). counted k (x .fate)) o
+countIn k o = sumOf (λ (x : Indication). countsAs k (x .fate)) o
 
 -- ---- the count granted at a stream's last bind
 

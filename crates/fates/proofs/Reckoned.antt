@@ -8,10 +8,9 @@ use native.Mathlib.Omega.{arith}
 use Rattle.ledger.specs.Tally.{has, sumOf, firstOf}
 use Rattle.paper.specs.Base.{fresh}
 use Rattle.book.specs.declared.End.{End}
-use Rattle.book.specs.declared.Line.{Line}
-use Rattle.book.specs.Book.{Opening, openOf, openCount, leftOpen, newest, tallies, overStreams}
+use Rattle.book.specs.Book.{Opening, openCount, leftOpen, newest, tallies, overStreams}
 use Rattle.book.proofs.Shades.{fairs, rooteds}
-use Rattle.register.specs.Register.{placeOf, openOn, enteredAll, blank}
+use Rattle.register.specs.Register.{placeOf, openOn}
 use Rattle.register.proofs.Kept.{kept-openings, kept-counts, kept-open, kept-all-openings, kept-all-counts, found-place, found-number}
 use Rattle.register.proofs.Places.{asked}
 use Rattle.register.proofs.Whole.{over-same}

@@ -1,21 +1,20 @@
 -- A call made on what a history left is that history with one call more.
 use Prim.Native.Nat.{ℕ, _+_, _*_, _/_, _%_, _<_, _≤_}
 use mathlib.Core.Path.{_≡_, refl, sym, ap, _∙_}
-use mathlib.Core.Bool.{true, false, not}
+use mathlib.Core.Bool.{true, not}
 use mathlib.Core.List.{List, [], _∷_, _++_}
-use lib.ListN.{length, getD, take, drop, replicate}
+use lib.ListN.{length, take, drop, replicate}
 use lib.Seq.{take-at}
 use lib.Dec.{ltb}
 use native.Mathlib.Omega.{arith}
 use borrow.Author.Tests.{lt-ltb, ltb-true}
 use Rattle.ledger.proofs.Tallies.{at-all, chosen, skip}
-use Rattle.ledger.specs.Tally.{allOf}
 use Rattle.octets.specs.Runs.{over}
 use Rattle.paper.specs.Base.{Table, fresh}
 use Rattle.paper.specs.RecordsOut.{allBytes}
 use Rattle.paper.specs.Refusals.{Outcome, refused}
 use Rattle.paper.specs.Step.{step}
-use Rattle.image.specs.Layout.{imageOf, tableOf, tidy, soundImage}
+use Rattle.image.specs.Layout.{imageOf, soundImage}
 use Rattle.image.proofs.TableBack.{table-back}
 use Rattle.outcomes.specs.Leaving.{Left, leaving, callOf, made}
 use Rattle.book.specs.declared.Line.{Line}
@@ -23,7 +22,7 @@ use Rattle.book.specs.Lines.{linesIn, linesOf}
 use Rattle.register.specs.Register.{blank, entered, enteredAll}
 use Rattle.promises.specs.History.{Call, run, history, lines}
 use Rattle.promises.specs.Soundness.{Bytes, Sound}
-use Rattle.promises.proofs.Agreement.{Agrees, agrees, are-bytes, linesFrom, run-more, lines-more}
+use Rattle.promises.proofs.Agreement.{agrees, are-bytes, linesFrom, run-more, lines-more}
 use Rattle.promises.proofs.Images.{image-tidy, image-sound}
 use Rattle.promises.proofs.Lent.{shaped}
 use Rattle.promises.proofs.Refused.{refusal-is-all}

@@ -6,7 +6,7 @@ use Rattle.ledger.specs.Choice.{both}
 use Rattle.ledger.specs.Tally.{sumOf, firstOf}
 use lib.Dec.{eqb}
 use Rattle.book.specs.declared.End.{End}
-use Rattle.book.specs.Book.{Indication, Opening, isStillOpen, openCount, newest, tallies, overStreams}
+use Rattle.book.specs.Book.{Indication, isStillOpen, openCount, newest, tallies, overStreams}
 use Rattle.report.specs.Report.{wordCall, wordOpening, wordTotal, wordOf, spaced}
 use Rattle.promises.specs.History.{Answered, lines, fates, indicated, accepted, denied, withdrawn, dropped, leftOpenIn}
 

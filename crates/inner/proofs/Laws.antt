@@ -2,19 +2,14 @@
 use Prim.Native.Nat.{ℕ, zero, suc, _+_, _≤_, _<_}
 use native.Mathlib.Omega.{arith}
 use mathlib.Core.Path.{_≡_, sym, ap, _∙_}
-use mathlib.Core.Bool.{true}
 use mathlib.Core.List.{List}
 use lib.ListN.{length, drop, length-drop}
 use lib.Seq.{drop-drop}
-use borrow.Author.Tests.{leb-true, eqb-false, eq-eqb, ne-eqb}
+use borrow.Author.Tests.{eqb-false, eq-eqb, ne-eqb}
 use Rattle.ledger.specs.Choice.{_⇒_∣_}
 use Rattle.ledger.specs.Tally.{oneIf}
 use Rattle.ledger.proofs.Tallies.{chosen, skip}
-use Rattle.paper.specs.Base.{fresh}
 use Rattle.paper.specs.RecordsIn.{recordSize}
-use Rattle.image.specs.Layout.{imageOf, soundImage}
-use Rattle.promises.proofs.Images.{image-sound}
-use Rattle.promises.proofs.Steps.{fresh-sound}
 use Rattle.outcomes.specs.Leaving.{made, isRefused}
 use Rattle.inner.specs.Run.{Ran, ran, passed, runFrom}
 

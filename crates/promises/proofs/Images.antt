@@ -4,6 +4,7 @@ use mathlib.Core.Path.{_≡_, refl, sym, ap, _∙_}
 use mathlib.Core.Bool.{true}
 use mathlib.Core.List.{List, [], _∷_, _++_, map, append-assoc, append-nil}
 use lib.ListN.{length, getD, take, drop, replicate}
+use lib.Seq.{drop-at}
 use lib.Dec.{leb}
 use native.Mathlib.Omega.{arith}
 use borrow.Author.Tests.{eq-eqb, ne-eqb, le-leb}
@@ -41,12 +42,6 @@ drop-past [] b n (suc m) e = absurd (omega arith)
 drop-past (x ∷ a) b n zero e = absurd (omega arith)
 drop-past (x ∷ a) b n (suc m) e = let z : n + suc m ≡ suc (n + m) = omega arith in ap (λ (k : ℕ). drop k (x ∷ a ++ b)) z ∙ drop-past a b n m (omega arith)
 
-drop-all : (a b : List ℕ) (n : ℕ) → length a ≡ n → drop n (a ++ b) ≡ b
-drop-all [] b zero e = refl
-drop-all [] b (suc n) e = absurd (omega arith)
-drop-all (x ∷ a) b zero e = absurd (omega arith)
-drop-all (x ∷ a) b (suc n) e = drop-all a b n (omega arith)
-
 zeros : (k n : ℕ) (r : List ℕ) → k ≤ n → allZero (take k (replicate n 0 ++ r)) ≡ true
 zeros zero n r h = refl
 zeros (suc k) zero r h = absurd (omega arith)
@@ -72,7 +67,7 @@ slot-tidy x h =
     let z : List ℕ = replicate (32 - length (flat w)) 0 in
     to-both _ _ (state-is (x .stream .state)) (to-both _ _ (le-leb _ _ h)
     (ap (λ (l : List ℕ). allZero (take (32 - length w * 4) l))
-    (drop-past (take 10 (slotBytes x)) (flat w ++ z) (length w * 4) 10 refl ∙ drop-all (flat w) z (length w * 4) (flat-length w) ∙ sym (append-nil z))
+    (drop-past (take 10 (slotBytes x)) (flat w ++ z) (length w * 4) 10 refl ∙ drop-at (flat w) z (length w * 4) (flat-length w) ∙ sym (append-nil z))
     ∙ zeros (32 - length w * 4) (32 - length (flat w)) [] (omega (arith, flat-length w))))
 
 module _ (t : Table) (k : Sound t) where
@@ -90,7 +85,7 @@ module _ (t : Table) (k : Sound t) where
       (ap (λ (c : List ℕ). allZero (take (80 - length (t .ppas) * 10) c))
       (drop-past (take 8 (imageOf t)) ((l ++ z) ++ r) (length (t .ppas) * 10) 8 refl
       ∙ ap (drop (length (t .ppas) * 10)) (append-assoc l z r)
-      ∙ drop-all l (z ++ r) (length (t .ppas) * 10) (ppas-length t (shaped t k)))
+      ∙ drop-at l (z ++ r) (length (t .ppas) * 10) (ppas-length t (shaped t k)))
       ∙ zeros (80 - length (t .ppas) * 10) (80 - length l) r (omega (arith, ppas-length t (shaped t k))))
 
   slots-tidy : allOf tidySlot (slotParts (imageOf t)) ≡ true

@@ -1,4 +1,4 @@
--- The kinds of outcome: each keeps a sound table sound.
+-- What a call may change of the table: each change keeps it sound.
 use Prim.Native.Nat.{ℕ, _+_, _-_, _≤_, _<_, _^_, min}
 use mathlib.Core.Path.{_≡_, refl, sym, ap, _∙_}
 use mathlib.Core.Bool.{Bool, true, false, not, false≢true}
@@ -9,7 +9,8 @@ use native.Mathlib.Omega.{arith}
 use borrow.Author.Tests.{eqb-true, ltb-true, ltb-false, lt-ltb}
 use Rattle.ledger.specs.Tally.{oneIf, occ, has, without, free}
 use Rattle.ledger.proofs.Tallies.{both-of, length-without-le}
-use Rattle.book.proofs.Sums.{occ-append, occ-without, sum-put, each-put, each-append}
+use Rattle.book.proofs.Sums.{occ-append, occ-without, sum-put}
+use Rattle.image.proofs.Joined.{each-set, each-more}
 use Rattle.paper.specs.Base.{numberOf, number, isIn, inState, Slot, closed, Table, slot, stream, waiting, ppaNumbers, noPpa, withSlot, withCalls, withStream, withCounter, withPpa, remembering}
 use Rattle.paper.specs.Saps.{listens}
 use Rattle.paper.specs.Rows.{standing, losing, moved}
@@ -35,13 +36,13 @@ unfolding withSlot occurrences listens
 put-sound t k i x o h l m = record {
   sixteen = length-set (t .slots) i x ∙ k .sixteen;
   small = k .small;
-  each = each-put (Ok (ppaNumbers t)) closed (t .slots) i x o (k .each);
+  each = each-set (Ok (ppaNumbers t)) (t .slots) i x closed (k .each) o;
   once = λ n. omega (arith, h n, sum-put (λ (y : Slot). occ n (y .waiting)) closed refl (t .slots) i x);
   alone = λ p q. omega (arith, l p q, sum-put (λ (y : Slot). hearing p q (y .stream)) closed refl (t .slots) i x);
   differ = k .differ;
   most = k .most;
   macs = k .macs;
-  recalls = λ e. each-put (λ (y : Slot). y .isOpen ≡ false) closed (t .slots) i x (m e) (k .recalls e);
+  recalls = λ e. each-set (λ (y : Slot). y .isOpen ≡ false) (t .slots) i x closed (k .recalls e) (m e);
 }
 
 -- a stream and its numbers replaced: it is open, or not, as before
@@ -124,7 +125,7 @@ ppa-sound t k p l n u m = record {
   alone = k .alone;
   differ = λ q. rw (numbers (t .ppas), occ-append) (differs q (eqb q (p .number .0)) refl (ltb-false 0 (occ (p .number .0) (ppaNumbers t)) n));
   most = simp length-append (omega arith);
-  macs = each-append (λ (y : Ppa). (length (y .mac) ≡ 6) × Bytes (y .mac)) noPpa (t .ppas) p m (k .macs);
+  macs = each-more (λ (y : Ppa). (length (y .mac) ≡ 6) × Bytes (y .mac)) (t .ppas) p noPpa (k .macs) m;
   recalls = k .recalls;
 }
   where

@@ -48,7 +48,7 @@ use Rattle.paper.specs.declared.Verdict.{Verdict}
 use Rattle.paper.specs.declared.Verdict.the-variants.{Serves, Fails}
 use Rattle.paper.specs.declared.Input.the-variants as input
 use Rattle.promises.specs.Soundness.{Sound}
-use Rattle.promises.proofs.Steps.{part-length}
+use Rattle.image.proofs.Joined.{part-length}
 use Rattle.promises.proofs.Room.{part-short, address-short, info-short, info-size}
 use Rattle.transcript.specs.Transcript.{sizeOut}
 use Rattle.book.specs.Lines.{asker, parting, endLine, upLine, lineAt, linesIn, openingLines, linesOf}

@@ -3,16 +3,15 @@ use Prim.Native.Nat.{ℕ, zero, suc, _+_, _-_, _≤_, _<_, _%_, _^_, min}
 use mathlib.Core.Path.{_≡_, refl, sym, ap, _∙_}
 use mathlib.Core.Bool.{Bool, true, false, not, false≢true}
 use mathlib.Core.List.{List, [], _∷_, _++_, map}
-use lib.ListN.{length, getD, take, drop, replicate, length-append, length-drop}
-use lib.Seq.{getD-set-other, length-take-le}
+use lib.ListN.{length, getD, take, drop, replicate, length-append}
+use lib.Seq.{getD-set-other}
 use lib.Dec.{eqb, ltb}
 use native.Mathlib.Omega.{arith}
 use borrow.Author.Tests.{eqb-true, eqb-false, eq-eqb, ltb-true, ltb-false, lt-ltb, le-ltb, ne-eqb, leb-true, leb-false, not-true, not-false}
 use Rattle.ledger.specs.Choice.{pick, both, either, asks}
 use Rattle.ledger.specs.Tally.{oneIf, occ, has, without, allOf, firstOf, free, nextFrom}
-use Rattle.ledger.proofs.Tallies.{both-of, picked, to-both, chosen, empty, first-holds, either-no, first-none, length-without, sum-most}
+use Rattle.ledger.proofs.Tallies.{both-of, picked, to-both, chosen, empty, first-holds, either-no, first-none, length-without}
 use Rattle.book.proofs.Sums.{sum-at, of-asks, among}
-use Rattle.ledger.proofs.Found.{finds}
 use Rattle.paper.specs.Base.{numberOf, number, isIn, noStream, inState, Slot, closed, justOpened, Table, fresh, slot, stream, waiting, lowestFree, ppaNumbers, knows, withSlot, withCalls, withPpa, remembering}
 use Rattle.paper.specs.Saps.{isSap, isType, grantOf, listens, listener, isListenedFor}
 use Rattle.paper.specs.Messages.{codeIn, askedBy}
@@ -63,6 +62,9 @@ use Rattle.paper.specs.declared.Input.{Input}
 use Rattle.paper.specs.declared.Input.the-variants as input
 use Rattle.promises.specs.Soundness.{Bytes, Sound}
 use Rattle.promises.proofs.Changes.{allows, allowed, opened, eight, quiet, in-nine, ok-closed, ok-none, ok-attached, ok-bound, ok-seated}
+use Rattle.image.proofs.Joined.{part-length}
+use Rattle.calls.proofs.Next.{next-free}
+use Rattle.promises.proofs.Lent.{shaped}
 use Rattle.promises.proofs.Tested.{sound-test}
 use Rattle.promises.proofs.Leaves.{hearing, put-sound, stream-sound, deaf, moved-sound, less-sound, losing-sound, more-sound, remembering-sound, ppa-sound}
 
@@ -192,9 +194,6 @@ no-bytes (suc n) (suc j) = no-bytes n j
 next-below : (j : ℕ) (count : ℕ → ℕ) (c : ℕ) → c < 2 ^ 32 → nextFrom j count c < 2 ^ 32
 next-below zero count c h = h
 next-below (suc j) count c h = picked (λ (n : ℕ). n < 2 ^ 32) (free count c) _ _ (λ e. h) (λ e. next-below j count ((c + 1) % 2 ^ 32) (omega arith))
-
-pub part-length : (r : List ℕ) (a n : ℕ) → a + n ≤ length r → length (part r a n) ≡ n
-part-length r a n h = length-take-le n (drop a r) (omega (arith, length-drop a r))
 
 -- what a bind grants, and that nobody listens where it passes
 unheard : (mode most : ℕ) (listened : Bool) → either (eqb mode 1) (eqb mode 2) ≡ true → both (eqb mode 1) (both (ltb 0 most) listened) ≡ false → 0 < grantOf mode most → listened ≡ false
@@ -394,11 +393,6 @@ module _ (t : Table) (k : Sound t) where
         record { kept = losing-sound t k i n e; told = refl; seen = shows-less t i (omega arith) (n .0) Withdrawn (standing (without (n .0) (waiting t i))) _ [] e (rw (open-nonzero i (n .0) e)) refl })
         (λ e. shuts _ _ refl)
 
-  -- the next number is free
-  next-free : free (occurrences t) (nextNumber t) ≡ true
-  unfolding nextNumber occurrences
-  next-free = finds (λ (x : Slot). x .waiting) (t .slots) 129 (t .counter) (k .small) (omega (arith, sum-most (λ (x : Slot). length (x .waiting)) closed 8 (t .slots) (λ j. omega (arith, k .each j .few, eight (ppaNumbers t) (slot t j) (k .each j))), k .sixteen)) (omega arith)
-
   next-small : nextNumber t < 2 ^ 32
   unfolding nextNumber
   next-small = next-below 129 (occurrences t) (t .counter) (k .small)
@@ -424,7 +418,7 @@ module _ (t : Table) (k : Sound t) where
     good-heard : (i : ℕ) (called calling : List ℕ) → Good t q (heardBy t i called calling)
     unfolding heardBy rings
     good-heard i called calling = chosen (Good t q) _ _ _ (λ e. shuts _ _ refl)
-        (λ e. let g : Sound (ringing t i (nextNumber t)) × Shows t (Came i (nextNumber t) ∷ []) (ringing t i (nextNumber t)) = rings-good i (nextNumber t) next-free next-small (not-false _ e) in record { kept = g .0; told = refl; seen = g .1 })
+        (λ e. let g : Sound (ringing t i (nextNumber t)) × Shows t (Came i (nextNumber t) ∷ []) (ringing t i (nextNumber t)) = rings-good i (nextNumber t) (next-free t (shaped t k) (k .small)) next-small (not-false _ e) in record { kept = g .0; told = refl; seen = g .1 })
 
     good-arrives : (p : PpaNumber) (sap : ℕ) (called calling : List ℕ) → Good t q (callArrives t p sap called calling)
     unfolding callArrives

@@ -1,6 +1,5 @@
 -- Laws of turns: what reading on keeps.
 use Prim.Native.Nat.{ℕ, _+_, _-_, _≤_}
-use native.Mathlib.Omega.{arith}
 use mathlib.Core.Path.{_≡_, _∙_}
 use mathlib.Core.Bool.{false}
 use mathlib.Core.List.{List, _++_}
@@ -8,10 +7,9 @@ use lib.Dec.{eqb}
 use lib.ListN.{length, take, drop}
 use lib.Seq.{take-take, take-at, length-take-le}
 use borrow.Rule.Slice.PartMut.{putMid, postOf}
-use borrow.Author.Tests.{leb-true, eqb-false}
-use Rattle.ledger.proofs.Tallies.{chosen, either-no}
+use borrow.Author.Tests.{eqb-false}
+use Rattle.ledger.proofs.Tallies.{either-no}
 use Rattle.octets.specs.Runs.{paste}
-use Rattle.paper.specs.RecordsIn.{recordSize}
 use Rattle.turns.specs.Turns.{isOver}
 use Rattle.turns.specs.declared.Turn.{Turn}
 
