@@ -4,7 +4,7 @@ use Prim.Native.Nat.{ℕ, suc, _+_, _≤_}
 use mathlib.Core.Path.{_≡_, refl, sym, ap, _∙_}
 use mathlib.Core.Bool.{Bool, true, false, not}
 use mathlib.Core.List.{List, [], map}
-use lib.ListN.{length}
+use lib.ListN.{length, getD}
 use native.Mathlib.Omega.{arith}
 use borrow.Author.Tests.{eqb-true, ltb-true}
 use Rattle.ledger.specs.Tally.{occ, has}
@@ -25,7 +25,7 @@ use Rattle.book.specs.Book.{tallies, countIn}
 use Rattle.book.proofs.Counts.{sums, none-left}
 use Rattle.book.proofs.Sums.{sum-at, sum-two}
 use Rattle.promises.specs.Answers.{errorsIn, gets, Complete}
-use Rattle.promises.specs.History.{Call, run, history, lines, fates, openBy, grantedBy, indicated, accepted, denied, withdrawn, dropped, leftOpenIn}
+use Rattle.promises.specs.History.{Call, run, history, lines, fates, openBy, grantedBy, counted, indicated, accepted, denied, withdrawn, dropped, leftOpenIn}
 use Rattle.promises.proofs.Agreement.{agrees, are-bytes}
 use Rattle.promises.proofs.Changes.{quiet}
 use Rattle.promises.proofs.Named.{names-accept, names-denial}
@@ -51,8 +51,8 @@ pub one-fate-each : (cs : List Call) (s j : ℕ)
     → indicated s j (history fresh cs)
     ≡ accepted s j (history fresh cs) + denied s j (history fresh cs) + withdrawn s j (history fresh cs) + dropped s j (history fresh cs) + leftOpenIn s j (history fresh cs)
 one-fate-each cs s j =
-    let a = agrees s cs in
-    rw (a .counts 0, a .counts 1, a .counts 2, a .counts 3, a .counts 4) (sums (fates s (history fresh cs)) j)
+    let at : (k : ℕ) → counted k s j (history fresh cs) ≡ getD (map (countIn k) (fates s (history fresh cs))) j 0 = λ k. ap (λ (l : List ℕ). getD l j 0) (agrees s cs .counts k) in
+    omega (arith, at 0, at 1, at 2, at 3, at 4, sums (fates s (history fresh cs)) j)
 
 -- "Those fates are counted from the records written and received, never from a stored sum": each count, by its own rule from
 -- the records, is that of the fates, opening by opening.
