@@ -14,7 +14,7 @@ import sys
 
 TOP = pathlib.Path(__file__).resolve().parent.parent
 HERE = TOP / "target/definitions"
-BELOW = ["ledger", "octets", "paper", "text", "transcript", "book", "register", "report"]
+BELOW = ["ledger", "octets", "paper", "records", "text", "transcript", "book", "register", "report"]
 
 CLAIMS = """\
 -- What the definitions come to on the captures.
