@@ -1,6 +1,6 @@
 -- What fates prints from its register is what the history says: the counts are those of `fates` of the history.
 use Prim.Native.Nat.{ℕ, zero, suc, _+_, _*_, _<_}
-use mathlib.Core.Path.{_≡_, refl, sym, ap, _∙_}
+use mathlib.Core.Path.{_≡_, refl, sym, ap, subst, _∙_}
 use mathlib.Core.Bool.{true}
 use mathlib.Core.List.{List, [], _∷_, _++_, append-assoc, append-nil}
 use lib.ListN.{length, getD}
@@ -8,14 +8,15 @@ use native.Mathlib.Omega.{arith}
 use Rattle.ledger.specs.Tally.{has, sumOf, firstOf}
 use Rattle.paper.specs.Base.{fresh}
 use Rattle.book.specs.declared.End.{End}
-use Rattle.book.specs.Book.{Opening, openCount, leftOpen, newest, tallies, overStreams}
+use Rattle.book.specs.declared.Line.{Line}
+use Rattle.book.specs.Book.{Opening, openOf, openCount, leftOpen, newest, posts, tallies, overStreams}
 use Rattle.book.proofs.Shades.{fairs, rooteds}
-use Rattle.register.specs.Register.{placeOf, openOn}
-use Rattle.register.proofs.Kept.{kept-openings, kept-counts, kept-open, kept-all-openings, kept-all-counts, found-place, found-number}
+use Rattle.register.specs.Register.{blank, placeOf, openOn, enteredAll}
+use Rattle.register.proofs.Kept.{fine-front, kept-openings, kept-counts, kept-open, kept-all-openings, kept-all-counts, found-place, found-number}
 use Rattle.register.proofs.Places.{asked}
 use Rattle.register.proofs.Whole.{over-same}
 use Rattle.report.specs.Report.{spaced, numbers, wordOf, wordCall, wordOpening, wordTotal, callLine, openingLine, openOnAll, totalLine}
-use Rattle.promises.specs.History.{Answered, history, lines, fates, openBy, indicated, accepted, denied, withdrawn, dropped}
+use Rattle.promises.specs.History.{Call, Answered, history, lines, fates, indicated, accepted, denied, withdrawn, dropped}
 use Rattle.promises.proofs.Agreement.{agrees, fair-history}
 use Rattle.fates.specs.Told.{Told}
 use Rattle.fates.specs.Shown.{openingShown, callShown, totalOf, totalShown}
@@ -92,17 +93,6 @@ module _ (img register : List ℕ) (w : Told img register) (short : length (line
       ∙ ap (λ (n : ℕ). wordOpening ++ spaced s ++ spaced (length (fates s h)) ++ spaced (indicated s 0 h) ++ spaced (accepted s 0 h) ++ spaced (denied s 0 h) ++ spaced (withdrawn s 0 h) ++ spaced (dropped s 0 h) ++ spaced n ++ (10 ∷ []))
       (open-is s m ∙ ap openCount (sym (newest-first (fates s h))))
 
-  -- The line of a call that ends shows the place and the number of that very call.
-  pub call-told : (s n : ℕ) (e : End) → s < 16 → has n (openBy s h) ≡ true → callLine s (placeOf s n register) (wordOf e) register ≡ callShown s n e h
-  unfolding callShown
-  call-told s n e m f =
-      ap (λ (l : List ℕ). l ++ numbers 2 (placeOf s n register) register ++ wordOf e ++ (10 ∷ []))
-      (one-number (wordCall ++ spaced s) (s * 24) (length (fates s h)) register (ap (λ (l : List ℕ). getD l (s * 24) 0) (w .entered) ∙ kept-openings (lines h) fine short s m))
-      ∙ ap (λ (l : List ℕ). l ++ wordOf e ++ (10 ∷ []))
-      (two-numbers (wordCall ++ spaced s ++ spaced (length (fates s h))) (placeOf s n register) (suc (firstOf (asked n) (newest (fates s h)))) n register
-      (ap (λ (l : List ℕ). getD l (placeOf s n l) 0) (w .entered) ∙ found-place (lines h) fine short s n m f)
-      (ap (λ (l : List ℕ). getD l (placeOf s n l + 1) 0) (w .entered) ∙ found-number (lines h) fine short s n m f))
-
   open-all : openOnAll 16 0 register ≡ overStreams 16 (λ s. sumOf openCount (fates s h))
   open-all =
       over-open register 16 ∙ over-same 16 (λ s. sumOf openCount (fates s h)) (λ s. openOn s register) (λ s m. open-is s m ∙ sym (all-open (fates s h) (agrees s (w .calls) .left)))
@@ -116,3 +106,20 @@ module _ (img register : List ℕ) (w : Told img register) (short : length (line
       (ap (λ (l : List ℕ). getD l 384 0) (w .entered) ∙ kept-all-openings (lines h) fine short)
       (λ k b. ap (λ (l : List ℕ). getD l (385 + k) 0) (w .entered) ∙ kept-all-counts (lines h) fine short k b))
       ∙ ap (λ (n : ℕ). wordTotal ++ spaced (overStreams 16 (λ s. length (fates s h))) ++ spaced (totalOf 0 h) ++ spaced (totalOf 1 h) ++ spaced (totalOf 2 h) ++ spaced (totalOf 3 h) ++ spaced (totalOf 4 h) ++ spaced n ++ (10 ∷ [])) open-all
+
+-- ---- the line of a call, at any line of a history
+
+-- The line of a call that ends shows the place and the number of that very call: xs are the lines up to there.
+pub call-told : (cs : List Call) (xs ys : List Line) → lines (history fresh cs) ≡ xs ++ ys → length xs < 18446744073709551615
+    → (s n : ℕ) (e : End) → s < 16 → has n (openOf (newest (posts s xs []))) ≡ true
+    → callLine s (placeOf s n (enteredAll xs blank)) (wordOf e) (enteredAll xs blank) ≡ callShown s n e (posts s xs [])
+unfolding callShown
+call-told cs xs ys q short s n e m f =
+    ap (λ (l : List ℕ). l ++ numbers 2 (placeOf s n (enteredAll xs blank)) (enteredAll xs blank) ++ wordOf e ++ (10 ∷ []))
+    (one-number (wordCall ++ spaced s) (s * 24) (length (posts s xs [])) (enteredAll xs blank) (kept-openings xs fine short s m))
+    ∙ ap (λ (l : List ℕ). l ++ wordOf e ++ (10 ∷ []))
+    (two-numbers (wordCall ++ spaced s ++ spaced (length (posts s xs []))) (placeOf s n (enteredAll xs blank)) (suc (firstOf (asked n) (newest (posts s xs [])))) n (enteredAll xs blank)
+    (found-place xs fine short s n m f) (found-number xs fine short s n m f))
+  where
+    fine : (s : ℕ) → s < 16 → (fairs s xs [] ≡ true) × (rooteds s xs 0 ≡ true)
+    fine = fine-front xs ys (λ s m. subst (λ (zs : List Line). (fairs s zs [] ≡ true) × (rooteds s zs 0 ≡ true)) q (fair-history s cs))

@@ -6,7 +6,7 @@ use Rattle.ledger.specs.Choice.{both}
 use Rattle.ledger.specs.Tally.{sumOf, firstOf}
 use lib.Dec.{eqb}
 use Rattle.book.specs.declared.End.{End}
-use Rattle.book.specs.Book.{Indication, isStillOpen, openCount, newest, tallies, overStreams}
+use Rattle.book.specs.Book.{Indication, Opening, isStillOpen, openCount, newest, tallies, overStreams}
 use Rattle.report.specs.Report.{wordCall, wordOpening, wordTotal, wordOf, spaced}
 use Rattle.promises.specs.History.{Answered, lines, fates, indicated, accepted, denied, withdrawn, dropped, leftOpenIn}
 
@@ -17,11 +17,12 @@ openingShown s h =
     ++ spaced (indicated s 0 h) ++ spaced (accepted s 0 h) ++ spaced (denied s 0 h) ++ spaced (withdrawn s 0 h) ++ spaced (dropped s 0 h)
     ++ spaced (leftOpenIn s 0 h) ++ (10 ∷ [])
 
--- the line of a call that ends: of the opening's still open ones with this number, the oldest
-unfoldable pub callShown : ℕ → ℕ → End → List Answered → List ℕ
-callShown s n e h =
-    wordCall ++ spaced s ++ spaced (length (fates s h))
-    ++ spaced (suc (firstOf (λ (x : Indication). both (isStillOpen (x .fate)) (eqb n (x .number))) (newest (fates s h)))) ++ spaced n
+-- the line of a call that ends, where stream s has these openings: of the newest one's still open calls with this number, the
+-- oldest
+unfoldable pub callShown : ℕ → ℕ → End → List Opening → List ℕ
+callShown s n e b =
+    wordCall ++ spaced s ++ spaced (length b)
+    ++ spaced (suc (firstOf (λ (x : Indication). both (isStillOpen (x .fate)) (eqb n (x .number))) (newest b))) ++ spaced n
     ++ wordOf e ++ (10 ∷ [])
 
 -- count k over all openings of all streams
