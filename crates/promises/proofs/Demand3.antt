@@ -67,13 +67,14 @@ none-open-at-close cs s j = none-left (fates s (history fresh cs)) (agrees s cs 
 pub open-in-the-table : (cs : List Call) (s : ℕ) → openBy s (history fresh cs) ≡ waiting (run fresh cs) s
 open-in-the-table cs s = agrees s cs .now
 
--- "The open ones are exactly those that an accept or a denial may name": any other number gets BADCORR.
+-- BADCORR is told where the order of errors says so.
 told : (cs : List Call) (s : ℕ) (r : List ℕ) (room : ℕ) (q : Request) → Complete (run fresh cs) r room s q
     → has badCorr (errorsIn (step (run fresh cs) r room .records)) ≡ gets badCorr (judge (run fresh cs) s q)
 told cs s r room q c =
     ap (λ (o : Outcome). has badCorr (errorsIn (o .records))) (answers (run fresh cs) (stays-sound cs) r room s q c)
     ∙ answer-tells badCorr (run fresh cs) s (messageIn r (c .size)) (judge (run fresh cs) s q)
 
+-- "The open ones are exactly those that an accept or a denial may name": any other number gets BADCORR.
 pub accept-may-name : (cs : List Call) (s : ℕ) (r : List ℕ) (room : ℕ) (a : ConnectResponse)
     → Complete (run fresh cs) r room s (request.ConnectRes a) → isIn 9 (stream (run fresh cs) s) ≡ true
     → not (has badCorr (errorsIn (step (run fresh cs) r room .records))) ≡ has (a .correlation .0) (openBy s (history fresh cs))
