@@ -1,3 +1,5 @@
 pub mod Sums
 pub mod Shades
 pub mod Counts
+pub mod Said
+pub mod ReadBack

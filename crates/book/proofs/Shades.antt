@@ -217,3 +217,12 @@ rooteds-append s [] ys k h g = g
 rooteds-append s (x ∷ xs) ys k h g =
     let h′ : (rooted s x k ≡ true) × (rooteds s xs (openings s x k) ≡ true) = both-of _ _ h in
     to-both _ _ (h′ .0) (rooteds-append s xs ys (openings s x k) (h′ .1) g)
+
+-- where fair lines end a number, it was open
+pub went-open : (s n : ℕ) (e : End) (xs ys : List Line) (w : List ℕ) → fairs s (xs ++ (Went s n e ∷ ys)) w ≡ true → has n (shades s xs w) ≡ true
+went-open s n e [] ys w h =
+    let f : pick (eqb s s) (has n w) true ≡ true = both-of _ _ h .0 in
+    rw (eq-eqb s s refl) at f
+went-open s n e (x ∷ xs) ys w h =
+    let f : (fair s x w ≡ true) × (fairs s (xs ++ (Went s n e ∷ ys)) (shade s x w) ≡ true) = both-of _ _ h in
+    went-open s n e xs ys (shade s x w) (f .1)

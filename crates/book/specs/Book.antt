@@ -108,10 +108,10 @@ countsAs k (met e) = oneIf (eqb k 0) + oneIf (eqb k (countOf e))
 abbrev pub countIn : ℕ → Opening → ℕ
 countIn k o = sumOf (λ (x : Indication). countsAs k (x .fate)) o
 
--- ---- the count granted at a stream's last bind
+-- ---- the count granted at the bind of a stream's newest opening, 0 where there was none
 
 abbrev pub grantLine : ℕ → Line → ℕ → ℕ
-grantLine s (Began i) g = g
+grantLine s (Began i) g = pick (eqb s i) 0 g
 grantLine s (Came i n) g = g
 grantLine s (Went i n e) g = g
 grantLine s (Given i n) g = pick (eqb s i) n g

@@ -1,6 +1,6 @@
 -- What one call says of connection indications: read from the bytes lent, the stream opened and the bytes written.
 use Prim.Native.Nat.{ℕ, zero, suc}
-use mathlib.Core.List.{List, [], _∷_, _++_}
+use mathlib.Core.List.{List, [], _∷_, _++_, map}
 use lib.ListN.{length, getD, drop}
 use lib.Dec.{eqb}
 use Rattle.ledger.specs.Choice.{_⇒_∣_}
@@ -67,11 +67,16 @@ lineAt q b =
     ∣ isMessage (getD b 0 0) ⇒ upLine b
     ∣ Nothing
 
--- the records written, one behind the other, at most so many
-unfoldable pub linesIn : ℕ → Input → List ℕ → List Line
-linesIn zero q b = []
-linesIn (suc k) q [] = []
-linesIn (suc k) q (x ∷ b) = lineAt q (x ∷ b) ∷ linesIn k q (drop (sizeOut x) (x ∷ b))
+-- ---- the records written
+
+-- one behind the other, at most so many: each with all that stands behind it
+unfoldable pub recordsIn : ℕ → List ℕ → List (List ℕ)
+recordsIn zero b = []
+recordsIn (suc k) [] = []
+recordsIn (suc k) (x ∷ b) = (x ∷ b) ∷ recordsIn k (drop (sizeOut x) (x ∷ b))
+
+abbrev pub linesIn : ℕ → Input → List ℕ → List Line
+linesIn k q b = map (lineAt q) (recordsIn k b)
 
 -- ---- a call
 

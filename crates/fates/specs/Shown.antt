@@ -6,7 +6,8 @@ use Rattle.ledger.specs.Choice.{both}
 use Rattle.ledger.specs.Tally.{sumOf, firstOf}
 use lib.Dec.{eqb}
 use Rattle.book.specs.declared.End.{End}
-use Rattle.book.specs.Book.{Indication, Opening, isStillOpen, openCount, newest, tallies, overStreams}
+use Rattle.book.specs.declared.End.the-variants.{Accepted, Denied, Withdrawn, Dropped}
+use Rattle.book.specs.Book.{Indication, Opening, isStillOpen, openCount, newest, countOf, tallies, overStreams}
 use Rattle.report.specs.Report.{wordCall, wordOpening, wordTotal, wordOf, spaced}
 use Rattle.promises.specs.History.{Answered, lines, fates, indicated, accepted, denied, withdrawn, dropped, leftOpenIn}
 
@@ -33,5 +34,7 @@ totalOf k h = overStreams 16 (λ s. sumOf (λ (n : ℕ). n) (tallies k s (lines 
 unfoldable pub totalShown : List Answered → List ℕ
 totalShown h =
     wordTotal ++ spaced (overStreams 16 (λ s. length (fates s h)))
-    ++ spaced (totalOf 0 h) ++ spaced (totalOf 1 h) ++ spaced (totalOf 2 h) ++ spaced (totalOf 3 h) ++ spaced (totalOf 4 h)
+    ++ spaced (totalOf 0 h)
+    ++ spaced (totalOf (countOf Accepted) h) ++ spaced (totalOf (countOf Denied) h)
+    ++ spaced (totalOf (countOf Withdrawn) h) ++ spaced (totalOf (countOf Dropped) h)
     ++ spaced (overStreams 16 (λ s. sumOf openCount (fates s h))) ++ (10 ∷ [])

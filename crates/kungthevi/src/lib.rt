@@ -2,7 +2,7 @@
 ghost use mathlib.Core.Path.{_≡_};
 ghost use Rattle.paper.specs.RecordsIn.{recordSize};
 ghost use Rattle.outcomes.specs.Leaving.{left, callOf};
-ghost use Rattle.kungthevi.specs.Fresh.{made, freshOf};
+ghost use Rattle.outcomes.specs.Fresh.{made, freshOf};
 use outcomes::NOT_SOUND;
 
 // Makes a fresh table: 0, or 16 where the length is wrong, and then the bytes stay as they stood.

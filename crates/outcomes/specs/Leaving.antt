@@ -27,6 +27,17 @@ refusing n = n * 65536
 abbrev pub writing : ℕ → ℕ → ℕ
 writing bytes opened = bytes + opened * 16777216
 
+-- and how it is taken apart again: the refusal number, 0 where the call was served; the token, 0 where no stream was opened; how
+-- many bytes of the room were written
+abbrev pub refusalIn : ℕ → ℕ
+refusalIn n = n / 65536 % 256
+
+abbrev pub tokenIn : ℕ → ℕ
+tokenIn n = n / 16777216
+
+abbrev pub writtenIn : ℕ → ℕ
+writtenIn n = n % 65536
+
 -- A refusal leaves image and room as they stood. Else the image is that of the outcome's table, and its records stand at
 -- the start of the room, whose other bytes stay.
 unfoldable pub leaving : List ℕ → List ℕ → Outcome → Left
@@ -44,4 +55,4 @@ abbrev pub made : List ℕ → List ℕ → Left
 made img r = callOf img r (replicate 128 0)
 
 abbrev pub isRefused : Left → Bool
-isRefused l = ltb 0 (l .number / 65536 % 256)
+isRefused l = ltb 0 (refusalIn (l .number))

@@ -16,7 +16,7 @@ use Rattle.book.proofs.Shades.{shades, fairs, rooteds, openingsIn, open-posts, 
 use Rattle.book.proofs.Counts.{count-posts}
 use Rattle.promises.specs.Soundness.{Bytes, Sound}
 use Rattle.promises.specs.History.{Call, answeredBy, run, history, lines, fates, grantedBy}
-use Rattle.promises.proofs.ReadBack.{read-step}
+use Rattle.promises.proofs.Whole.{read-step}
 use Rattle.promises.proofs.Sights.{Seen}
 use Rattle.promises.proofs.Steps.{good, fresh-sound, fresh-at}
 

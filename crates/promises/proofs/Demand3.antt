@@ -1,19 +1,19 @@
--- Demand 3, sentence by sentence. "Start from a fresh table and make calls in any sequence, refused ones included": `cs` is any
--- list of calls, `history fresh cs` what came back, `run fresh cs` the table after them.
+-- Demand 3, sentence by sentence. "Start from a fresh table and make calls in any sequence, refused ones included": `x` is any
+-- harness, `heardIn x` what came back of its calls, `imageIn x` the image that it then holds and `tableIn x` the table in that.
 use Prim.Native.Nat.{ℕ, suc, _+_, _≤_}
 use mathlib.Core.Path.{_≡_, refl, sym, ap, _∙_}
 use mathlib.Core.Bool.{Bool, true, false, not}
-use mathlib.Core.List.{List, [], map}
+use mathlib.Core.List.{List, [], map, _∷_, _++_}
 use lib.ListN.{length, getD}
 use native.Mathlib.Omega.{arith}
-use borrow.Author.Tests.{eqb-true, ltb-true}
-use Rattle.ledger.specs.Tally.{occ, has}
-use Rattle.ledger.proofs.Tallies.{empty}
-use Rattle.paper.specs.Base.{number, isIn, Slot, closed, fresh, slot, stream, waiting, ppaNumbers}
+use borrow.Author.Tests.{eqb-true, ltb-true, eq-eqb, ne-eqb, not-true}
+use Rattle.ledger.specs.Tally.{occ, has, allOf}
+use Rattle.ledger.proofs.Tallies.{empty, to-both}
+use Rattle.paper.specs.Base.{number, isIn, Slot, closed, fresh, slot, stream, waiting, ppaNumbers, Table}
 use Rattle.paper.specs.Correlations.{occurrences}
 use Rattle.paper.specs.ErrorCodes.{badCorr}
 use Rattle.paper.specs.ErrorOrder.{judge}
-use Rattle.paper.specs.RecordsIn.{messageIn}
+use Rattle.paper.specs.RecordsIn.{messageIn, inputOf}
 use Rattle.paper.specs.Refusals.{Outcome, notSound}
 use Rattle.paper.specs.Sound.{sound}
 use Rattle.paper.specs.Step.{step}
@@ -21,94 +21,139 @@ use Rattle.paper.specs.declared.ConnectResponse.{ConnectResponse}
 use Rattle.paper.specs.declared.DisconnectRequest.{DisconnectRequest}
 use Rattle.paper.specs.declared.Request.{Request}
 use Rattle.paper.specs.declared.Request.the-variants as request
-use Rattle.book.specs.Book.{tallies, countIn}
+use Rattle.book.specs.Book.{tallies, countIn, openOf, newest, posts}
 use Rattle.book.proofs.Counts.{sums, none-left}
 use Rattle.book.proofs.Sums.{sum-at, sum-two}
-use Rattle.promises.specs.Answers.{errorsIn, gets, Complete}
-use Rattle.promises.specs.History.{Call, run, history, lines, fates, openBy, grantedBy, counted, indicated, accepted, denied, withdrawn, dropped, leftOpenIn}
-use Rattle.promises.proofs.Agreement.{agrees, are-bytes}
-use Rattle.promises.proofs.Changes.{quiet}
+use Rattle.promises.specs.Answers.{errorsIn, gets, Complete, errorsTold}
+use Rattle.promises.specs.History.{Call, run, history, lines, fates, openBy, grantedBy, counted, indicated, accepted, denied, withdrawn, dropped, leftOpenIn, Answered}
+use Rattle.promises.proofs.Agreement.{agrees, are-bytes, fair-history}
+use Rattle.promises.proofs.Changes.{quiet, in-nine}
 use Rattle.promises.proofs.Named.{names-accept, names-denial}
 use Rattle.promises.proofs.OutState.{answers, answer-tells}
-use Rattle.promises.proofs.Steps.{good, fresh-sound}
+use Rattle.promises.proofs.Steps.{good, fresh-sound, Good}
 use Rattle.promises.proofs.Tested.{sound-test}
+use lib.Dec.{eqb}
+use Rattle.image.specs.Layout.{soundImage}
+use Rattle.book.specs.declared.End.{End}
+use Rattle.book.specs.declared.Line.{Line}
+use Rattle.book.specs.declared.Line.the-variants.{Went}
+use Rattle.book.proofs.Shades.{fairs, open-posts, went-open}
+use Rattle.promises.specs.Harness.{Lending, Harness, imageIn, tableIn, heardIn, nextIn}
+use Rattle.promises.specs.Soundness.{Sound}
+use Rattle.promises.proofs.Harness.{callsOf, image-is, history-is, agreed, errors-heard}
+use Rattle.promises.proofs.Images.{image-sound}
 
--- A fresh table is sound.
-pub fresh-is-sound : sound fresh ≡ true
-fresh-is-sound = sound-test fresh fresh-sound
+-- ---- no call gives 16
 
--- Calls in any sequence from a fresh table leave a sound one,
-pub stays-sound : (cs : List Call) → sound (run fresh cs) ≡ true
-stays-sound cs = sound-test (run fresh cs) (agrees 0 cs .sound)
+-- Calls in any sequence leave a sound table,
+pub stays-sound : (x : Harness) → sound (tableIn x) ≡ true
+stays-sound x = sound-test (tableIn x) (agreed x 0 .sound)
 
--- and so the next call never gives refusal 16.
-pub never-sixteen : (cs : List Call) (c : Call) → step (run fresh cs) (c .bytes) (c .room) .refusal ≡ notSound → ⊥
-never-sixteen cs c e = omega (arith, ltb-true (step (run fresh cs) (c .bytes) (c .room) .refusal) 16 (good (run fresh cs) (agrees 0 cs .sound) (c .bytes) (are-bytes c) (c .room) .told))
+-- in an image that is tidy too: what a harness holds is always lent soundly,
+pub stays-lent : (x : Harness) → soundImage (imageIn x) ≡ true
+stays-lent x = ap soundImage (image-is x) ∙ image-sound (run fresh (callsOf x)) (agrees 0 (callsOf x) .sound)
+
+-- and so no number that came back is refusal 16, whatever could give it.
+pub never-sixteen : (x : Harness) → allOf (λ (a : Answered). not (eqb (a .refusal) notSound)) (heardIn x) ≡ true
+unfolding history
+never-sixteen x = ap (allOf (λ (a : Answered). not (eqb (a .refusal) notSound))) (history-is x) ∙ none fresh fresh-sound (callsOf x)
+  where
+    none : (t : Table) → Sound t → (cs : List Call) → allOf (λ (a : Answered). not (eqb (a .refusal) notSound)) (history t cs) ≡ true
+    none t k [] = refl
+    none t k (c ∷ cs) =
+        let g : Good t (inputOf (c .bytes)) (step t (c .bytes) (c .room)) = good t k (c .bytes) (are-bytes c) (c .room) in
+        to-both _ _ (ap not (ne-eqb (step t (c .bytes) (c .room) .refusal) 16 (λ e. omega (arith, ltb-true (step t (c .bytes) (c .room) .refusal) 16 (g .told)))))
+        (none (step t (c .bytes) (c .room) .table) (g .kept) cs)
+
+-- ---- exactly one fate
 
 -- "For each opening of a stream, every connection indication written to it is exactly one of: accepted, denied, withdrawn by
 -- the line, dropped at close, still open."
-pub one-fate-each : (cs : List Call) (s j : ℕ)
-    → indicated s j (history fresh cs)
-    ≡ accepted s j (history fresh cs) + denied s j (history fresh cs) + withdrawn s j (history fresh cs) + dropped s j (history fresh cs) + leftOpenIn s j (history fresh cs)
-one-fate-each cs s j =
-    let at : (k : ℕ) → counted k s j (history fresh cs) ≡ getD (map (countIn k) (fates s (history fresh cs))) j 0 = λ k. ap (λ (l : List ℕ). getD l j 0) (agrees s cs .counts k) in
-    omega (arith, at 0, at 1, at 2, at 3, at 4, sums (fates s (history fresh cs)) j)
+pub one-fate-each : (x : Harness) (s j : ℕ)
+    → indicated s j (heardIn x)
+    ≡ accepted s j (heardIn x) + denied s j (heardIn x) + withdrawn s j (heardIn x) + dropped s j (heardIn x) + leftOpenIn s j (heardIn x)
+one-fate-each x s j =
+    let at : (k : ℕ) → counted k s j (heardIn x) ≡ getD (map (countIn k) (fates s (heardIn x))) j 0 = λ k. ap (λ (l : List ℕ). getD l j 0) (agreed x s .counts k) in
+    omega (arith, at 0, at 1, at 2, at 3, at 4, sums (fates s (heardIn x)) j)
 
 -- "Those fates are counted from the records written and received, never from a stored sum": each count, by its own rule from
 -- the records, is that of the fates, opening by opening.
-pub counted-from-records : (cs : List Call) (s k : ℕ) → tallies k s (lines (history fresh cs)) [] ≡ map (countIn k) (fates s (history fresh cs))
-counted-from-records cs s k = agrees s cs .counts k
+pub counted-from-records : (x : Harness) (s k : ℕ) → tallies k s (lines (heardIn x)) [] ≡ map (countIn k) (fates s (heardIn x))
+counted-from-records x s k = agreed x s .counts k
 
 -- An opening that has ended has no indication still open.
-pub none-open-at-close : (cs : List Call) (s j : ℕ) → leftOpenIn s (suc j) (history fresh cs) ≡ 0
-none-open-at-close cs s j = none-left (fates s (history fresh cs)) (agrees s cs .left) j
+pub none-open-at-close : (x : Harness) (s j : ℕ) → leftOpenIn s (suc j) (heardIn x) ≡ 0
+none-open-at-close x s j = none-left (fates s (heardIn x)) (agreed x s .left) j
 
--- The still open ones by the history are the open numbers that the table holds, in order.
-pub open-in-the-table : (cs : List Call) (s : ℕ) → openBy s (history fresh cs) ≡ waiting (run fresh cs) s
-open-in-the-table cs s = agrees s cs .now
+-- ---- the open ones
+
+-- The still open ones by what was heard are the open numbers that the table holds, in order.
+pub open-in-the-table : (x : Harness) (s : ℕ) → openBy s (heardIn x) ≡ waiting (tableIn x) s
+open-in-the-table x s = agreed x s .now
+
+-- Only in state 9 is one open,
+pub none-outside-nine : (x : Harness) (s : ℕ) → isIn 9 (stream (tableIn x) s) ≡ false → openBy s (heardIn x) ≡ []
+none-outside-nine x s e = agreed x s .now ∙ empty (waiting (tableIn x) s) (quiet (ppaNumbers (tableIn x)) (slot (tableIn x) s) (agreed x s .sound .each s) e)
 
 -- BADCORR is told where the order of errors says so.
-told : (cs : List Call) (s : ℕ) (r : List ℕ) (room : ℕ) (q : Request) → Complete (run fresh cs) r room s q
-    → has badCorr (errorsIn (step (run fresh cs) r room .records)) ≡ gets badCorr (judge (run fresh cs) s q)
-told cs s r room q c =
-    ap (λ (o : Outcome). has badCorr (errorsIn (o .records))) (answers (run fresh cs) (stays-sound cs) r room s q c)
-    ∙ answer-tells badCorr (run fresh cs) s (messageIn r (c .size)) (judge (run fresh cs) s q)
+told : (x : Harness) (c : Lending) (s : ℕ) (q : Request) → Complete (tableIn x) (c .bytes) (length (c .room)) s q
+    → has badCorr (errorsTold (nextIn x c .written)) ≡ gets badCorr (judge (tableIn x) s q)
+told x c s q m = ap (has badCorr) (errors-heard x c) ∙ ap (λ (o : Outcome). has badCorr (errorsIn (o .records))) (answers (tableIn x) (stays-sound x) (c .bytes) (length (c .room)) s q m)
+    ∙ answer-tells badCorr (tableIn x) s (messageIn (c .bytes) (m .size)) (judge (tableIn x) s q)
 
--- "The open ones are exactly those that an accept or a denial may name": any other number gets BADCORR.
-pub accept-may-name : (cs : List Call) (s : ℕ) (r : List ℕ) (room : ℕ) (a : ConnectResponse)
-    → Complete (run fresh cs) r room s (request.ConnectRes a) → isIn 9 (stream (run fresh cs) s) ≡ true
-    → not (has badCorr (errorsIn (step (run fresh cs) r room .records))) ≡ has (a .correlation .0) (openBy s (history fresh cs))
-accept-may-name cs s r room a c e =
-    ap not (told cs s r room (request.ConnectRes a) c) ∙ names-accept (run fresh cs) s (agrees s cs .sound) e a .is ∙ ap (has (a .correlation .0)) (sym (agrees s cs .now))
+-- "The open ones are exactly those that an accept or a denial may name": in state 9 any other number gets BADCORR,
+pub accept-may-name : (x : Harness) (c : Lending) (s : ℕ) (a : ConnectResponse)
+    → Complete (tableIn x) (c .bytes) (length (c .room)) s (request.ConnectRes a) → isIn 9 (stream (tableIn x) s) ≡ true
+    → not (has badCorr (errorsTold (nextIn x c .written))) ≡ has (a .correlation .0) (openBy s (heardIn x))
+accept-may-name x c s a m e =
+    ap not (told x c s (request.ConnectRes a) m) ∙ names-accept (tableIn x) s (agreed x s .sound) e a .is ∙ ap (has (a .correlation .0)) (sym (agreed x s .now))
 
-pub denial-may-name : (cs : List Call) (s : ℕ) (r : List ℕ) (room : ℕ) (d : DisconnectRequest)
-    → Complete (run fresh cs) r room s (request.Disconnect d) → isIn 9 (stream (run fresh cs) s) ≡ true
-    → not (has badCorr (errorsIn (step (run fresh cs) r room .records))) ≡ has (d .correlation .0) (openBy s (history fresh cs))
-denial-may-name cs s r room d c e =
-    ap not (told cs s r room (request.Disconnect d) c) ∙ names-denial (run fresh cs) s (agrees s cs .sound) e d .is ∙ ap (has (d .correlation .0)) (sym (agrees s cs .now))
+pub denial-may-name : (x : Harness) (c : Lending) (s : ℕ) (d : DisconnectRequest)
+    → Complete (tableIn x) (c .bytes) (length (c .room)) s (request.Disconnect d) → isIn 9 (stream (tableIn x) s) ≡ true
+    → not (has badCorr (errorsTold (nextIn x c .written))) ≡ has (d .correlation .0) (openBy s (heardIn x))
+denial-may-name x c s d m e =
+    ap not (told x c s (request.Disconnect d) m) ∙ names-denial (tableIn x) s (agreed x s .sound) e d .is ∙ ap (has (d .correlation .0)) (sym (agreed x s .now))
 
--- Only in state 9 is one open.
-pub none-outside-nine : (cs : List Call) (s : ℕ) → isIn 9 (stream (run fresh cs) s) ≡ false → openBy s (history fresh cs) ≡ []
-none-outside-nine cs s e = agrees s cs .now ∙ empty (waiting (run fresh cs) s) (quiet (ppaNumbers (run fresh cs)) (slot (run fresh cs) s) (agrees s cs .sound .each s) e)
+-- and in whatever state an accept or a denial of an open one never does.
+in-nine-by : (x : Harness) (s n : ℕ) → has n (openBy s (heardIn x)) ≡ true → isIn 9 (stream (tableIn x) s) ≡ true
+in-nine-by x s n h = eq-eqb _ _ (in-nine (ppaNumbers (tableIn x)) (slot (tableIn x) s) n (agreed x s .sound .each s) (ap (has n) (sym (agreed x s .now)) ∙ h))
+
+pub open-may-be-accepted : (x : Harness) (c : Lending) (s : ℕ) (a : ConnectResponse)
+    → Complete (tableIn x) (c .bytes) (length (c .room)) s (request.ConnectRes a) → has (a .correlation .0) (openBy s (heardIn x)) ≡ true
+    → has badCorr (errorsTold (nextIn x c .written)) ≡ false
+open-may-be-accepted x c s a m h = not-true _ (accept-may-name x c s a m (in-nine-by x s (a .correlation .0) h) ∙ h)
+
+pub open-may-be-denied : (x : Harness) (c : Lending) (s : ℕ) (d : DisconnectRequest)
+    → Complete (tableIn x) (c .bytes) (length (c .room)) s (request.Disconnect d) → has (d .correlation .0) (openBy s (heardIn x)) ≡ true
+    → has badCorr (errorsTold (nextIn x c .written)) ≡ false
+open-may-be-denied x c s d m h = not-true _ (denial-may-name x c s d m (in-nine-by x s (d .correlation .0) h) ∙ h)
+
+-- And no other one is ever named: where a record ends an indication, an `a`, a `d` with a number or a DISCONNECT_IND with one, it
+-- was open on that stream by the records before it.
+pub only-open-ones-end : (x : Harness) (s n : ℕ) (e : End) (before after : List Line) → lines (heardIn x) ≡ before ++ (Went s n e ∷ after)
+    → has n (openOf (newest (posts s before []))) ≡ true
+only-open-ones-end x s n e before after z =
+    ap (has n) (open-posts s before [])
+    ∙ went-open s n e before after [] (ap (λ (ys : List Line). fairs s ys []) (sym z ∙ ap lines (history-is x)) ∙ fair-history s (callsOf x) .0)
 
 -- "No two open ones in the table bear one number": not on one stream,
-pub once-on-a-stream : (cs : List Call) (s n : ℕ) → occ n (openBy s (history fresh cs)) ≤ 1
+pub once-on-a-stream : (x : Harness) (s n : ℕ) → occ n (openBy s (heardIn x)) ≤ 1
 unfolding occurrences
-once-on-a-stream cs s n =
-    let a = agrees s cs in
-    rw (a .now) (omega (arith, a .sound .once n, sum-at (λ (x : Slot). occ n (x .waiting)) closed refl (run fresh cs .slots) s))
+once-on-a-stream x s n =
+    let a = agreed x s in
+    rw (a .now) (omega (arith, a .sound .once n, sum-at (λ (y : Slot). occ n (y .waiting)) closed refl (tableIn x .slots) s))
 
 -- and not on two.
-pub once-in-the-table : (cs : List Call) (s i n : ℕ) → (s ≡ i → ⊥) → occ n (openBy s (history fresh cs)) + occ n (openBy i (history fresh cs)) ≤ 1
+pub once-in-the-table : (x : Harness) (s i n : ℕ) → (s ≡ i → ⊥) → occ n (openBy s (heardIn x)) + occ n (openBy i (heardIn x)) ≤ 1
 unfolding occurrences
-once-in-the-table cs s i n d =
-    let a = agrees s cs in
-    rw (a .now, agrees i cs .now) (omega (arith, a .sound .once n, sum-two (λ (x : Slot). occ n (x .waiting)) closed refl (run fresh cs .slots) s i d))
+once-in-the-table x s i n d =
+    let a = agreed x s in
+    rw (a .now, agreed x i .now) (omega (arith, a .sound .once n, sum-two (λ (y : Slot). occ n (y .waiting)) closed refl (tableIn x .slots) s i d))
 
--- "They never exceed the count granted at the bind": that of the stream's last BIND_ACK.
-pub within-the-grant : (cs : List Call) (s : ℕ) → length (openBy s (history fresh cs)) ≤ grantedBy s (history fresh cs)
-within-the-grant cs s = rw (agrees s cs .now) (few (isIn 9 (stream (run fresh cs) s)) refl)
+-- "They never exceed the count granted at the bind": that of the last BIND_ACK since the stream was opened.
+pub within-the-grant : (x : Harness) (s : ℕ) → length (openBy s (heardIn x)) ≤ grantedBy s (heardIn x)
+within-the-grant x s = rw (agreed x s .now) (few (isIn 9 (stream (tableIn x) s)) refl)
   where
-    few : (b : Bool) → isIn 9 (stream (run fresh cs) s) ≡ b → length (waiting (run fresh cs) s) ≤ grantedBy s (history fresh cs)
-    few true e = omega (arith, agrees s cs .sound .each s .few, agrees s cs .grants (omega (arith, eqb-true (number (stream (run fresh cs) s)) 9 e)))
-    few false e = omega (arith, quiet (ppaNumbers (run fresh cs)) (slot (run fresh cs) s) (agrees s cs .sound .each s) e)
+    few : (b : Bool) → isIn 9 (stream (tableIn x) s) ≡ b → length (waiting (tableIn x) s) ≤ grantedBy s (heardIn x)
+    few true e = omega (arith, agreed x s .sound .each s .few, agreed x s .grants (omega (arith, eqb-true (number (stream (tableIn x) s)) 9 e)))
+    few false e = omega (arith, quiet (ppaNumbers (tableIn x)) (slot (tableIn x) s) (agreed x s .sound .each s) e)

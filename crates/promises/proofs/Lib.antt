@@ -11,11 +11,11 @@ pub mod Leaves
 pub mod Lent
 pub mod Images
 -- What a call says: its records by content, what that shows of the table, every call, and the same read from bytes.
-pub mod Said
 pub mod Sights
 pub mod Steps
 pub mod Room
-pub mod ReadBack
+pub mod Whole
 -- History and table agree, call by call; what may be named in state 9.
 pub mod Agreement
+pub mod Harness
 pub mod Named

@@ -101,7 +101,10 @@ unfolding remembering withSlot
 shows-opens t i b z s = record {
   shaded = put-in waitingOf closed (λ (w : List ℕ). []) (t .slots) i s justOpened b refl;
   fairly = to-both _ true (there (λ (s : ℕ). eqb (length (waiting t s)) 0) s i (eq-eqb _ _ z)) refl;
-  granted = λ g a. put-cases (λ (x : Slot). 6 ≤ number (x .stream) → x .stream .granted ≡ g) closed (t .slots) i s justOpened (λ e d. absurd (omega arith)) a;
+  granted = λ g a. picked (λ (v : ℕ). 6 ≤ number (stream (withSlot (remembering t) i justOpened) s) → stream (withSlot (remembering t) i justOpened) s .granted ≡ v) (eqb s i) 0 g
+      (λ e m. absurd (omega (arith, m, ap (λ (j : ℕ). number (stream (withSlot (remembering t) i justOpened) j)) (eqb-true s i e), ap (λ (x : Slot). number (x .stream)) (getD-set-same (t .slots) i justOpened closed b))))
+      (λ e m. let z : slot (withSlot (remembering t) i justOpened) s ≡ slot t s = getD-set-other (t .slots) i s justOpened closed (eqb-false s i e) in
+      ap (λ (x : Slot). x .stream .granted) z ∙ a (subst (λ (x : Slot). 6 ≤ number (x .stream)) z m));
   rootedly = λ k a. refl;
   opens = λ k a. picked (λ (m : ℕ). slot (withSlot (remembering t) i justOpened) s .isOpen ≡ true → 0 < m) (eqb s i) _ _ (λ e o. omega arith)
       (λ e o. a (ap isOpenOf (sym (getD-set-other (t .slots) i s justOpened closed (eqb-false s i e))) ∙ o));

@@ -27,7 +27,7 @@ use Rattle.book.proofs.Shades.{isNothing, silent, Taken, emptied, untouched, un
 use Rattle.paper.specs.declared.LineOrder.the-variants as lineOrder
 use Rattle.paper.specs.declared.Reply.the-variants as reply
 use Rattle.book.specs.Lines.{parting}
-use Rattle.promises.proofs.Said.{lineOf, said}
+use Rattle.book.proofs.Said.{lineOf, said}
 use Rattle.promises.proofs.Sights.{Shows, shows-still, shows-stream, shows-less, shows-more, shows-opens, shows-binds, shows-closes}
 use Rattle.paper.specs.Refusals.{Outcome, served, refused}
 use Rattle.paper.specs.Rows.{statesOf, ofModeOne, hasRow, attachedTo, boundTo, losing, carryingItself, moved, standing, tableAfter, ordersOf, flushes, okAck, repliesTo, performed}

@@ -4,14 +4,19 @@ use Prim.Native.Nat.{ℕ, _≤_}
 use mathlib.Core.Path.{_≡_}
 use mathlib.Core.Bool.{Bool, true, false, not}
 use mathlib.Core.List.{List, [], _∷_, _++_}
+use lib.ListN.{length, getD}
 use lib.Dec.{eqb}
-use Rattle.ledger.specs.Choice.{both}
+use Rattle.ledger.specs.Choice.{both, _⇒_∣_}
+use Rattle.octets.specs.Numbers.{be32At}
 use Rattle.paper.specs.Base.{isIn, Table, slot}
 use Rattle.paper.specs.Messages.{askedBy}
 use Rattle.paper.specs.RecordsIn.{inputOf, messageIn}
 use Rattle.paper.specs.RecordsOut.{Record, order, flush, up}
 use Rattle.paper.specs.ErrorCodes.{errorOf}
 use Rattle.paper.specs.ErrorOrder.{carrierOf, isWaiting}
+use Rattle.image.specs.Layout.{joined}
+use Rattle.transcript.specs.Transcript.{isMessage}
+use Rattle.book.specs.Lines.{recordsIn}
 use Rattle.paper.specs.declared.Input.the-variants as input
 use Rattle.paper.specs.declared.Asked.the-variants.{For}
 use Rattle.paper.specs.declared.Reply.{Reply}
@@ -44,6 +49,13 @@ errorsIn [] = []
 errorsIn (order o called ∷ rs) = errorsIn rs
 errorsIn (flush i ∷ rs) = errorsIn rs
 errorsIn (up i r tail ∷ rs) = errorIn r ++ errorsIn rs
+
+-- the same, read from the bytes written: of the record at the start of some bytes, of all
+unfoldable pub errorAt : List ℕ → List ℕ
+errorAt b = both (isMessage (getD b 0 0)) (eqb (be32At b 3) 0x05) ⇒ be32At b 11 ∷ [] ∣ []
+
+abbrev pub errorsTold : List ℕ → List ℕ
+errorsTold written = joined errorAt (recordsIn (length written) written)
 
 -- a verdict that answers with error e
 abbrev pub gets : ℕ → Verdict → Bool

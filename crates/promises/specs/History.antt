@@ -11,9 +11,10 @@ use Rattle.paper.specs.Base.{Table}
 use Rattle.paper.specs.RecordsOut.{allBytes}
 use Rattle.paper.specs.Refusals.{Outcome}
 use Rattle.paper.specs.Step.{step}
+use Rattle.book.specs.declared.End.the-variants.{Accepted, Denied, Withdrawn, Dropped}
 use Rattle.book.specs.declared.Line.{Line}
 use Rattle.book.specs.Lines.{linesOf}
-use Rattle.book.specs.Book.{Opening, openOf, openCount, newest, posts, tallies, grantBy}
+use Rattle.book.specs.Book.{Opening, openOf, openCount, newest, posts, countOf, tallies, grantBy}
 
 -- ---- calls, and what they come to
 
@@ -58,7 +59,7 @@ fates s h = posts s (lines h) []
 abbrev pub openBy : ℕ → List Answered → List ℕ
 openBy s h = openOf (newest (fates s h))
 
--- the count granted at its last bind
+-- the count granted at the bind of its newest opening
 abbrev pub grantedBy : ℕ → List Answered → ℕ
 grantedBy s h = grantBy s (lines h) 0
 
@@ -73,19 +74,19 @@ indicated = counted 0
 
 -- orders a for its messages
 abbrev pub accepted : ℕ → ℕ → List Answered → ℕ
-accepted = counted 1
+accepted = counted (countOf Accepted)
 
 -- orders d with a number, for its messages
 abbrev pub denied : ℕ → ℕ → List Answered → ℕ
-denied = counted 2
+denied = counted (countOf Denied)
 
 -- DISCONNECT_INDs with a number
 abbrev pub withdrawn : ℕ → ℕ → List Answered → ℕ
-withdrawn = counted 3
+withdrawn = counted (countOf Withdrawn)
 
 -- orders d with a number, for its close
 abbrev pub dropped : ℕ → ℕ → List Answered → ℕ
-dropped = counted 4
+dropped = counted (countOf Dropped)
 
 -- indications that none of these ended
 abbrev pub leftOpenIn : ℕ → ℕ → List Answered → ℕ

@@ -19,7 +19,7 @@ use Rattle.book.specs.declared.End.{End}
 use Rattle.book.specs.declared.End.the-variants.{Accepted, Denied, Withdrawn, Dropped}
 use Rattle.book.specs.declared.Line.{Line}
 use Rattle.book.specs.declared.Line.the-variants.{Began, Went}
-use Rattle.book.specs.Lines.{asker, endLine, upLine, lineAt, linesIn, openingLines}
+use Rattle.book.specs.Lines.{asker, endLine, upLine, lineAt, recordsIn, linesIn, openingLines}
 use Rattle.register.specs.Register.{openOn, entered, enteredAll}
 use Rattle.report.specs.Report.{wordCall, wordOf, wordOpen, spaced, numbers, callLine, openLines, endText, lineText, allText, endTexts, openOnAll}
 
@@ -172,7 +172,7 @@ record-most q b l =
 
 -- where no bytes are left there are no lines
 lines-end : (k : ℕ) (q : Input) (b : List ℕ) (i : ℕ) → length b ≤ i → linesIn k q (drop i b) ≡ []
-unfolding linesIn
+unfolding recordsIn
 lines-end k q b i h = ap (linesIn k q) (drop-of-length-le b h) ∙ none k where
   none : (j : ℕ) → linesIn j q [] ≡ []
   none zero = refl
@@ -181,7 +181,7 @@ lines-end k q b i h = ap (linesIn k q) (drop-of-length-le b h) ∙ none k where
 -- else that of the first record, and those of the rest
 lines-next : (k : ℕ) (q : Input) (b : List ℕ) (i : ℕ) → i < length b
     → linesIn (suc k) q (drop i b) ≡ lineAt q (drop i b) ∷ linesIn k q (drop (i + sizeOut (getD b i 0)) b)
-unfolding linesIn
+unfolding recordsIn
 lines-next k q b i h =
     let e : drop i b ≡ getD b i 0 ∷ drop (suc i) b = drop-cons b i 0 h in
     ap (linesIn (suc k) q) e

@@ -1,25 +1,16 @@
--- The lines read from the bytes written are those of the records.
-use Prim.Native.Nat.{ℕ, zero, suc, _+_, _*_, _-_, _/_, _%_, _≤_}
-use mathlib.Core.Path.{_≡_, refl, sym, ap, _∙_}
+-- Every call writes records of their size, so what is read from the bytes written is what the records say.
+use Prim.Native.Nat.{ℕ, _+_, _≤_}
+use mathlib.Core.Path.{_≡_, refl, ap, _∙_}
 use mathlib.Core.Bool.{Bool, true, false, not}
-use mathlib.Core.List.{List, [], _∷_, _++_, map}
-use lib.ListN.{length, drop, replicate, length-append, length-replicate}
-use lib.Seq.{drop-at}
-use lib.Dec.{eqb}
+use mathlib.Core.List.{List, [], _∷_, _++_, map, append-nil}
+use lib.ListN.{length, length-append}
 use native.Mathlib.Omega.{arith}
-use borrow.Author.Tests.{eqb-false, ltb-false}
-use Rattle.ledger.specs.Choice.{pick, _⇒_∣_}
-use Rattle.book.specs.declared.End.{End}
-use Rattle.book.specs.declared.End.the-variants.{Accepted, Withdrawn}
+use borrow.Author.Tests.{ltb-false}
+use Rattle.ledger.specs.Choice.{_⇒_∣_}
 use Rattle.book.specs.declared.Line.{Line}
-use Rattle.book.specs.declared.Line.the-variants.{Came, Went, Given, Nothing}
-use Rattle.octets.specs.Blocks.{flat}
-use Rattle.octets.proofs.Laws.{flat-length}
 use Rattle.paper.specs.RecordsOut.{Record, order, flush, up, flushIf, inOrder, bytesOf, allBytes}
-use Rattle.paper.specs.Replies.{fieldsOf, contentOf}
-use Rattle.paper.specs.declared.LineOrder.{LineOrder}
+use Rattle.paper.specs.Replies.{contentOf}
 use Rattle.paper.specs.declared.LineOrder.the-variants as lineOrder
-use Rattle.paper.specs.declared.Reply.{Reply}
 use Rattle.paper.specs.declared.Reply.the-variants as reply
 use Rattle.paper.specs.declared.Input.{Input}
 use Rattle.ledger.proofs.Tallies.{chosen}
@@ -50,104 +41,11 @@ use Rattle.paper.specs.declared.Input.the-variants as input
 use Rattle.promises.specs.Soundness.{Sound}
 use Rattle.image.proofs.Joined.{part-length}
 use Rattle.promises.proofs.Room.{part-short, address-short, info-short, info-size}
-use Rattle.transcript.specs.Transcript.{sizeOut}
-use Rattle.book.specs.Lines.{asker, parting, endLine, upLine, lineAt, linesIn, openingLines, linesOf}
-use Rattle.promises.proofs.Said.{lineOf, said}
-
--- the bytes behind an order: an address of a connect, none else
-abbrev behind : LineOrder → ℕ
-behind (lineOrder.Connect i) = 7
-behind (lineOrder.Accept c n) = 0
-behind (lineOrder.Disconnect i n reason) = 0
-behind (lineOrder.Reset i) = 0
-behind (lineOrder.ResetAnswer i) = 0
-
--- a record of its size
-abbrev pub Sized : Record → Type 0
-Sized (order o called) = length called ≡ behind o
-Sized (flush i) = 0 ≤ 0
-Sized (up i r tail) = length (fieldsOf r) * 4 + length tail ≤ 96
-
--- what reading one record gives
-record Reads (q : Input) (r : Record) (rest : List ℕ) : Type 0 where
-  kind : ℕ
-  others : List ℕ
-  form : bytesOf r ++ rest ≡ kind ∷ others
-  size : sizeOut kind ≡ length (bytesOf r)
-  some : eqb (sizeOut kind) 0 ≡ false
-  line : lineAt q (bytesOf r ++ rest) ≡ lineOf q r
-
-back : (v : ℕ) → v / 16777216 * 16777216 + v / 65536 % 256 * 65536 + v / 256 % 256 * 256 + v % 256 ≡ v
-back v = omega arith
-
-end-said : (i n : ℕ) (e : End) → endLine i n e ≡ pick (eqb n 0) Nothing (Went i n e)
-unfolding endLine _⇒_∣_
-end-said i n e = go (eqb n 0)
-  where
-    go : (b : Bool) → (b ⇒ Nothing ∣ Went i n e) ≡ pick b Nothing (Went i n e)
-    go true = refl
-    go false = refl
-
-reads-order : (q : Input) (o : LineOrder) (called rest : List ℕ) → length called ≡ behind o → Reads q (order o called) rest
-unfolding sizeOut lineAt _⇒_∣_
-reads-order q (lineOrder.Connect i) called rest h = record { kind = 99; others = _; form = refl; size = omega arith; some = refl; line = refl }
-reads-order q (lineOrder.Accept c n) called rest h = record { kind = 97; others = _; form = refl; size = omega arith; some = refl; line = ap (λ (m : ℕ). Went (asker q) m Accepted) (omega arith) }
-reads-order q (lineOrder.Disconnect i n reason) called rest h = record { kind = 100; others = _; form = refl; size = omega arith; some = refl; line = ap (λ (m : ℕ). endLine i m (parting q)) (back (n .0)) ∙ end-said i (n .0) (parting q) }
-reads-order q (lineOrder.Reset i) called rest h = record { kind = 114; others = _; form = refl; size = omega arith; some = refl; line = refl }
-reads-order q (lineOrder.ResetAnswer i) called rest h = record { kind = 115; others = _; form = refl; size = omega arith; some = refl; line = refl }
-
-up-size : (i : ℕ) (r : Reply) (tail : List ℕ) → length (fieldsOf r) * 4 + length tail ≤ 96 → length (bytesOf (up i r tail)) ≡ 99
-unfolding contentOf
-up-size i r tail h =
-    let c : length (contentOf r tail) ≡ length (fieldsOf r) * 4 + length tail = length-append (flat (fieldsOf r)) tail ∙ ap (λ (n : ℕ). n + length tail) (flat-length (fieldsOf r)) in
-    omega (arith, length-append (contentOf r tail) (replicate (96 - length (contentOf r tail)) 0), length-replicate {A = ℕ} (96 - length (contentOf r tail)) 0)
-
-reads-up : (q : Input) (i : ℕ) (r : Reply) (tail rest : List ℕ) → length (fieldsOf r) * 4 + length tail ≤ 96 → Reads q (up i r tail) rest
-unfolding sizeOut lineAt upLine contentOf _⇒_∣_
-reads-up q i (reply.InfoAck s) tail rest h = record { kind = 67; others = _; form = refl; size = sym (up-size i (reply.InfoAck s) tail h); some = refl; line = refl }
-reads-up q i (reply.BindAck sap granted) tail rest h = record { kind = 67; others = _; form = refl; size = sym (up-size i (reply.BindAck sap granted) tail h); some = refl; line = ap (λ (m : ℕ). Given i m) (omega arith) }
-reads-up q i (reply.ErrorAck code error) tail rest h = record { kind = 67; others = _; form = refl; size = sym (up-size i (reply.ErrorAck code error) tail h); some = refl; line = refl }
-reads-up q i (reply.OkAck code) tail rest h = record { kind = 67; others = _; form = refl; size = sym (up-size i (reply.OkAck code) tail h); some = refl; line = refl }
-reads-up q i (reply.ConnectInd n) tail rest h = record { kind = 80; others = _; form = refl; size = sym (up-size i (reply.ConnectInd n) tail h); some = refl; line = ap (λ (m : ℕ). Came i m) (omega arith) }
-reads-up q i reply.ConnectCon tail rest h = record { kind = 80; others = _; form = refl; size = sym (up-size i reply.ConnectCon tail h); some = refl; line = refl }
-reads-up q i (reply.TokenAck k) tail rest h = record { kind = 67; others = _; form = refl; size = sym (up-size i (reply.TokenAck k) tail h); some = refl; line = refl }
-reads-up q i (reply.DisconnectInd reason n) tail rest h = record { kind = 80; others = _; form = refl; size = sym (up-size i (reply.DisconnectInd reason n) tail h); some = refl; line = ap (λ (m : ℕ). endLine i m Withdrawn) (back (n .0)) ∙ end-said i (n .0) Withdrawn }
-reads-up q i (reply.ResetInd reason) tail rest h = record { kind = 80; others = _; form = refl; size = sym (up-size i (reply.ResetInd reason) tail h); some = refl; line = refl }
-reads-up q i reply.ResetCon tail rest h = record { kind = 80; others = _; form = refl; size = sym (up-size i reply.ResetCon tail h); some = refl; line = refl }
-
-reads : (q : Input) (r : Record) (rest : List ℕ) → Sized r → Reads q r rest
-unfolding sizeOut lineAt _⇒_∣_
-reads q (order o called) rest h = reads-order q o called rest h
-reads q (flush i) rest h = record { kind = 70; others = _; form = refl; size = refl; some = refl; line = refl }
-reads q (up i r tail) rest h = reads-up q i r tail rest h
-
-abbrev pub AllSized : List Record → Type 0
-AllSized [] = 0 ≤ 0
-AllSized (r ∷ rs) = Sized r × AllSized rs
-
--- with as many tries as there are records, or more
-read-back : (q : Input) (rs : List Record) → AllSized rs → (k : ℕ) → length rs ≤ k → linesIn k q (allBytes rs) ≡ map (lineOf q) rs
-unfolding linesIn
-read-back q [] h zero m = refl
-read-back q [] h (suc k) m = refl
-read-back q (r ∷ rs) h zero m = absurd (omega arith)
-read-back q (r ∷ rs) h (suc k) m =
-    let z : Reads q r (allBytes rs) = reads q r (allBytes rs) (h .0) in
-    ap (linesIn (suc k) q) (z .form)
-    ∙ ap (λ (b : List ℕ). lineAt q b ∷ linesIn k q (drop (sizeOut (z .kind)) b)) (sym (z .form))
-    ∙ ap (λ (l : Line). l ∷ linesIn k q (drop (sizeOut (z .kind)) (bytesOf r ++ allBytes rs))) (z .line)
-    ∙ ap (λ (b : List ℕ). lineOf q r ∷ linesIn k q b) (drop-at (bytesOf r) (allBytes rs) (sizeOut (z .kind)) (sym (z .size)))
-    ∙ ap (λ (ys : List Line). lineOf q r ∷ ys) (read-back q rs (h .1) k (omega arith))
-
--- a record takes a byte at least
-enough-bytes : (q : Input) (rs : List Record) → AllSized rs → length rs ≤ length (allBytes rs)
-enough-bytes q [] h = omega arith
-enough-bytes q (r ∷ rs) h =
-    let z : Reads q r (allBytes rs) = reads q r (allBytes rs) (h .0) in
-    let n : sizeOut (z .kind) ≡ 0 → ⊥ = eqb-false _ _ (z .some) in
-    omega (arith, length-append (bytesOf r) (allBytes rs), z .size, enough-bytes q rs (h .1))
-
--- ---- every call writes records of their size
+use Rattle.book.specs.Lines.{lineAt, openingLines, linesOf}
+use Rattle.book.proofs.Said.{said}
+use Rattle.book.proofs.ReadBack.{AllSized, starts, told-apart, lines-said}
+use Rattle.image.specs.Layout.{joined}
+use Rattle.promises.specs.Answers.{errorIn, errorsIn, errorAt, errorsTold}
 
 -- how far into the message a row reads
 abbrev reach : Row → ℕ
@@ -333,10 +231,46 @@ module _ (t : Table) (k : Sound t) where
   unfolding step
   whole-step r room = chosen Whole _ _ _ (λ e. none _) (λ e. chosen Whole _ _ _ (λ e. none _) (λ e. chosen Whole _ _ _ (λ e. none _) (λ e. whole-serve r (inputOf r))))
 
--- what a call's records say is what is read from their bytes
+-- ---- what is read from the bytes of a call
+
+-- its lines
 pub read-step : (t : Table) → Sound t → (r : List ℕ) (room : ℕ)
     → linesOf r (step t r room .opened) (allBytes (step t r room .records)) ≡ said (inputOf r) (step t r room .opened) (step t r room .records)
 read-step t k r room =
     let rs : List Record = step t r room .records in
-    let w : AllSized rs = whole-step t k r room .whole in
-    ap (λ (ys : List Line). openingLines (step t r room .opened) ++ ys) (read-back (inputOf r) rs w (length (allBytes rs)) (enough-bytes (inputOf r) rs w))
+    ap (λ (ys : List Line). openingLines (step t r room .opened) ++ ys)
+    (ap (map (lineAt (inputOf r))) (told-apart rs (whole-step t k r room .whole)) ∙ lines-said (inputOf r) rs)
+
+-- its errors
+error-read : (r : Record) (rest : List ℕ) → errorAt (bytesOf r ++ rest) ≡ errorsIn (r ∷ [])
+unfolding errorAt contentOf _⇒_∣_
+error-read (order (lineOrder.Connect i) called) rest = refl
+error-read (order (lineOrder.Accept c n) called) rest = refl
+error-read (order (lineOrder.Disconnect i n reason) called) rest = refl
+error-read (order (lineOrder.Reset i) called) rest = refl
+error-read (order (lineOrder.ResetAnswer i) called) rest = refl
+error-read (flush i) rest = refl
+error-read (up i (reply.InfoAck s) tail) rest = refl
+error-read (up i (reply.BindAck sap granted) tail) rest = refl
+error-read (up i (reply.ErrorAck code error) tail) rest = ap (λ (e : ℕ). e ∷ []) (omega arith)
+error-read (up i (reply.OkAck code) tail) rest = refl
+error-read (up i (reply.ConnectInd n) tail) rest = refl
+error-read (up i reply.ConnectCon tail) rest = refl
+error-read (up i (reply.TokenAck k) tail) rest = refl
+error-read (up i (reply.DisconnectInd reason n) tail) rest = refl
+error-read (up i (reply.ResetInd reason) tail) rest = refl
+error-read (up i reply.ResetCon tail) rest = refl
+
+errors-read : (rs : List Record) → joined errorAt (starts rs) ≡ errorsIn rs
+errors-read [] = refl
+errors-read (r ∷ rs) = ap (λ (l : List ℕ). l ++ joined errorAt (starts rs)) (error-read r (allBytes rs)) ∙ ap (λ (l : List ℕ). errorsIn (r ∷ []) ++ l) (errors-read rs) ∙ one r
+  where
+    one : (r : Record) → errorsIn (r ∷ []) ++ errorsIn rs ≡ errorsIn (r ∷ rs)
+    one (order o called) = refl
+    one (flush i) = refl
+    one (up i r tail) = ap (λ (l : List ℕ). l ++ errorsIn rs) (append-nil (errorIn r))
+
+pub told-step : (t : Table) → Sound t → (r : List ℕ) (room : ℕ) → errorsTold (allBytes (step t r room .records)) ≡ errorsIn (step t r room .records)
+told-step t k r room =
+    let rs : List Record = step t r room .records in
+    ap (joined errorAt) (told-apart rs (whole-step t k r room .whole)) ∙ errors-read rs

@@ -1,0 +1,137 @@
+-- What a harness hears is the history of the tables: on the image of a sound table the call for C is the step of that table,
+-- and the number and the room give back its refusal, its token and the bytes that it wrote.
+use Prim.Native.Nat.{ℕ, _+_, _*_, _%_, _≤_, _<_}
+use mathlib.Core.Path.{_≡_, refl, sym, ap, subst, _∙_}
+use mathlib.Core.List.{List, [], _∷_, map}
+use lib.ListN.{length, take, drop}
+use lib.Seq.{take-at}
+use native.Mathlib.Omega.{arith}
+use borrow.Author.Tests.{ltb-true, ltb-false}
+use Rattle.ledger.specs.Choice.{_⇒_∣_}
+use Rattle.ledger.proofs.Tallies.{chosen}
+use Rattle.octets.specs.Runs.{over}
+use Rattle.paper.specs.Base.{Table, fresh}
+use Rattle.paper.specs.RecordsOut.{allBytes}
+use Rattle.paper.specs.Refusals.{Outcome, refused}
+use Rattle.paper.specs.Step.{step}
+use Rattle.image.specs.Layout.{tableOf, imageOf}
+use Rattle.image.proofs.TableBack.{table-back}
+use Rattle.outcomes.specs.Leaving.{Left, left, refusing, writing, refusalIn, tokenIn, writtenIn, leaving, callOf}
+use Rattle.outcomes.specs.Fresh.{Made, freshOf}
+use Rattle.book.specs.Book.{tallies}
+use Rattle.promises.specs.Answers.{errorsIn, errorsTold}
+use Rattle.promises.specs.Soundness.{Sound}
+use Rattle.promises.specs.History.{Call, Answered, answeredBy, run, history, lines, fates, grantedBy}
+use Rattle.promises.specs.Harness.{Lending, leftOn, cameBack, imageAfter, heard, Harness, imageIn, tableIn, heardIn, nextIn}
+use Rattle.promises.proofs.Agreement.{Agrees, agrees, are-bytes}
+use Rattle.promises.proofs.Images.{image-tidy}
+use Rattle.promises.proofs.Lent.{shaped}
+use Rattle.promises.proofs.Refused.{refusal-is-all}
+use Rattle.promises.proofs.Room.{room-enough}
+use Rattle.promises.proofs.Steps.{good, fresh-sound}
+use Rattle.promises.proofs.Whole.{told-step}
+
+-- On the image of a sound table the call for C is the step of that table.
+pub call-is-step : (t : Table) → Sound t → (r room : List ℕ) → callOf (imageOf t) r room ≡ leaving (imageOf t) room (step t r (length room))
+unfolding callOf _⇒_∣_
+call-is-step t k r room = rw (image-tidy t k, table-back t (shaped t k))
+
+abbrev pub asCall : Lending → Call
+asCall c = record { bytes = c .bytes; areBytes = c .areBytes; room = length (c .room) }
+
+-- ---- one call
+
+abbrev outcome : Table → Lending → Outcome
+outcome t c = step t (c .bytes) (length (c .room))
+
+pub record IsStep (t : Table) (c : Lending) (l : Left) : Type 0 where
+  pub image : l .image ≡ imageOf (outcome t c .table)
+  pub answer : cameBack c l ≡ answeredBy (asCall c) (outcome t c)
+
+-- what is taken apart of a number
+same-answer : (c : Lending) (l : Left) (refusal opened : ℕ) (written : List ℕ) → refusalIn (l .number) ≡ refusal → tokenIn (l .number) ≡ opened → take (writtenIn (l .number)) (l .room) ≡ written
+    → cameBack c l ≡ record { lent = c .bytes; room = length (c .room); refusal = refusal; opened = opened; written = written }
+same-answer c l refusal opened written a b w i = record { lent = c .bytes; room = length (c .room); refusal = a i; opened = b i; written = w i }
+
+none-taken : (l : List ℕ) (n : ℕ) → n ≡ 0 → take n l ≡ []
+none-taken l n e = ap (λ (m : ℕ). take m l) e ∙ none l
+  where
+    none : (l : List ℕ) → take 0 l ≡ []
+    none [] = refl
+    none (x ∷ l) = refl
+
+is-step : (t : Table) → Sound t → (c : Lending) → IsStep t c (leaving (imageOf t) (c .room) (outcome t c))
+unfolding leaving
+is-step t k c = chosen (IsStep t c) _ _ _
+    (λ e. let z : o ≡ refused t (o .refusal) = refusal-is-all t (c .bytes) (length (c .room)) e in
+    let n : o .refusal < 16 = ltb-true (o .refusal) 16 (good t k (c .bytes) (are-bytes (asCall c)) (length (c .room)) .told) in
+    record {
+      image = ap (λ (o : Outcome). imageOf (o .table)) (sym z);
+      answer = same-answer c (left (refusing (o .refusal)) (imageOf t) (c .room)) (o .refusal) 0 [] (omega arith) (omega arith) (none-taken (c .room) (refusing (o .refusal) % 65536) (omega arith)) ∙ ap (answeredBy (asCall c)) (sym z);
+    })
+    (λ e. let n : length bs ≤ 128 = room-enough t k (c .bytes) (length (c .room)) in
+    record {
+      image = refl;
+      answer = same-answer c (left (writing (length bs) (o .opened)) (imageOf (o .table)) (over bs (c .room))) (o .refusal) (o .opened) bs (omega (arith, ltb-false 0 (o .refusal) e)) (omega arith)
+          (let w : (length bs + o .opened * 16777216) % 65536 ≡ length bs = omega arith in ap (λ (m : ℕ). take m (over bs (c .room))) w ∙ take-at bs (drop (length bs) (c .room)) (length bs) refl);
+    })
+  where
+    o : Outcome
+    o = outcome t c
+
+    bs : List ℕ
+    bs = allBytes (o .records)
+
+pub one-call : (t : Table) → Sound t → (c : Lending) → IsStep t c (leftOn (imageOf t) c)
+one-call t k c = subst (IsStep t c) (sym (call-is-step t k (c .bytes) (c .room))) (is-step t k c)
+
+-- ---- calls in turn
+
+kept : (t : Table) → Sound t → (c : Lending) → Sound (outcome t c .table)
+kept t k c = good t k (c .bytes) (are-bytes (asCall c)) (length (c .room)) .kept
+
+images-are-the-run : (t : Table) → Sound t → (cs : List Lending) → imageAfter (imageOf t) cs ≡ imageOf (run t (map asCall cs))
+unfolding imageAfter run
+images-are-the-run t k [] = refl
+images-are-the-run t k (c ∷ cs) = ap (λ (img : List ℕ). imageAfter img cs) (one-call t k c .image) ∙ images-are-the-run (outcome t c .table) (kept t k c) cs
+
+heard-is-history : (t : Table) → Sound t → (cs : List Lending) → heard (imageOf t) cs ≡ history t (map asCall cs)
+unfolding heard history
+heard-is-history t k [] = refl
+heard-is-history t k (c ∷ cs) =
+    ap (λ (a : Answered). a ∷ heard (leftOn (imageOf t) c .image) cs) (one-call t k c .answer)
+    ∙ ap (λ (img : List ℕ). answeredBy (asCall c) (outcome t c) ∷ heard img cs) (one-call t k c .image)
+    ∙ ap (λ (h : List Answered). answeredBy (asCall c) (outcome t c) ∷ h) (heard-is-history (outcome t c .table) (kept t k c) cs)
+
+-- ---- of a harness
+
+-- bytes that `kungthevi_fresh` took hold the image of a fresh table
+pub fresh-taken : (lent : List ℕ) → freshOf lent .number ≡ 0 → freshOf lent .image ≡ imageOf fresh
+unfolding freshOf
+fresh-taken lent = chosen (λ (m : Made). m .number ≡ 0 → m .image ≡ imageOf fresh) _ _ _ (λ e z. refl) (λ e z. absurd (omega arith))
+
+module _ (x : Harness) where
+  abbrev pub callsOf : List Call
+  callsOf = map asCall (x .calls)
+
+  pub image-is : imageIn x ≡ imageOf (run fresh callsOf)
+  image-is = ap (λ (img : List ℕ). imageAfter img (x .calls)) (fresh-taken (x .lent) (x .taken)) ∙ images-are-the-run fresh fresh-sound (x .calls)
+
+  pub history-is : heardIn x ≡ history fresh callsOf
+  history-is = ap (λ (img : List ℕ). heard img (x .calls)) (fresh-taken (x .lent) (x .taken)) ∙ heard-is-history fresh fresh-sound (x .calls)
+
+  pub table-is : tableIn x ≡ run fresh callsOf
+  table-is = ap tableOf image-is ∙ table-back (run fresh callsOf) (shaped (run fresh callsOf) (agrees 0 callsOf .sound))
+
+  -- what the harness heard of a stream is what the table holds of it
+  pub agreed : (s : ℕ) → Agrees s (tableIn x) (fates s (heardIn x)) (λ k. tallies k s (lines (heardIn x)) []) (grantedBy s (heardIn x))
+  agreed s = subst (λ (t : Table). Agrees s t (fates s (heardIn x)) (λ k. tallies k s (lines (heardIn x)) []) (grantedBy s (heardIn x))) (sym table-is)
+      (subst (λ (h : List Answered). Agrees s (run fresh callsOf) (fates s h) (λ k. tallies k s (lines h) []) (grantedBy s h)) (sym history-is) (agrees s callsOf))
+
+  -- one call more is a step of the table that it holds
+  pub next-is : (c : Lending) → IsStep (tableIn x) c (leftOn (imageIn x) c)
+  next-is c = subst (λ (img : List ℕ). IsStep (tableIn x) c (leftOn img c)) (sym (image-is ∙ ap imageOf (sym table-is))) (one-call (tableIn x) (agreed 0 .sound) c)
+
+  -- and tells the errors that its records tell
+  pub errors-heard : (c : Lending) → errorsTold (nextIn x c .written) ≡ errorsIn (outcome (tableIn x) c .records)
+  errors-heard c = ap (λ (a : Answered). errorsTold (a .written)) (next-is c .answer) ∙ told-step (tableIn x) (agreed 0 .sound) (c .bytes) (length (c .room))
