@@ -1,18 +1,19 @@
 -- The counts of the lines are the counts of the fates, and each indication is counted under one fate.
-use Prim.Native.Nat.{ℕ, zero, suc, _+_, _<_}
-use mathlib.Core.Path.{_≡_, refl, ap, _∙_}
+use Prim.Native.Nat.{ℕ, zero, suc, _+_, _*_, _<_}
+use mathlib.Core.Path.{_≡_, refl, sym, ap, _∙_}
 use mathlib.Core.Bool.{Bool, true, false}
 use mathlib.Core.List.{List, [], _∷_, map}
 use lib.ListN.{length, getD}
 use lib.Dec.{eqb}
 use native.Mathlib.Omega.{arith}
-use borrow.Author.Tests.{ltb-true}
+use borrow.Author.Tests.{ltb-true, eq-eqb}
 use Rattle.ledger.specs.Choice.{pick}
 use Rattle.ledger.specs.Tally.{oneIf, occ, has, sumOf}
 use Rattle.book.specs.declared.End.{End}
 use Rattle.book.specs.declared.End.the-variants.{Accepted, Denied, Withdrawn, Dropped}
 use Rattle.book.specs.declared.Line.{Line}
 use Rattle.book.specs.declared.Line.the-variants.{Began, Came, Went, Given, Nothing}
+use Rattle.book.specs.Lines.{telling}
 use Rattle.book.specs.Book.{Fate, stillOpen, met, Opening, isStillOpen, countOf, openOf, mark, noted, newest, onNewest, post, posts, bump, tallyLine, tallies, countsAs, countIn, openCount, leftOpen}
 use Rattle.ledger.proofs.Tallies.{both-of}
 use Rattle.book.proofs.Sums.{pick-to}
@@ -86,3 +87,31 @@ none-open (o ∷ b) z (suc j) = none-open b (omega arith) j
 pub none-left : (b : List Opening) → leftOpen b ≡ 0 → (j : ℕ) → openCount (getD b (suc j) []) ≡ 0
 none-left [] z j = refl
 none-left (o ∷ b) z j = none-open b z j
+
+-- ---- what a call's lines add to the counts of the newest opening
+
+-- lines that say nothing add nothing
+tally-telling : (k s : ℕ) (ys : List Line) (ts : List ℕ) → tallies k s (telling ys) ts ≡ tallies k s ys ts
+unfolding tallies
+tally-telling k s [] ts = refl
+tally-telling k s (Began i ∷ ys) ts = tally-telling k s ys (tallyLine k s (Began i) ts)
+tally-telling k s (Came i n ∷ ys) ts = tally-telling k s ys (tallyLine k s (Came i n) ts)
+tally-telling k s (Went i n e ∷ ys) ts = tally-telling k s ys (tallyLine k s (Went i n e) ts)
+tally-telling k s (Given i g ∷ ys) ts = tally-telling k s ys ts
+tally-telling k s (Nothing ∷ ys) ts = tally-telling k s ys ts
+
+bump-first : (n : ℕ) (ts : List ℕ) → getD (bump n ts) 0 0 ≡ getD ts 0 0 + n
+bump-first n [] = omega arith
+bump-first n (k ∷ ks) = refl
+
+-- the end of each of some numbers adds one for each, to the count of that end alone
+pub ends-counted : (k s : ℕ) (e : End) (w : List ℕ) (ys : List Line) (ts : List ℕ) → telling ys ≡ map (λ (n : ℕ). Went s n e) w
+    → getD (tallies k s ys ts) 0 0 ≡ getD ts 0 0 + oneIf (eqb k (countOf e)) * length w
+unfolding tallies
+ends-counted k s e w ys ts h = ap (λ (l : List ℕ). getD l 0 0) (sym (tally-telling k s ys ts) ∙ ap (λ (zs : List Line). tallies k s zs ts) h) ∙ go w ts
+  where
+    go : (w ts : List ℕ) → getD (tallies k s (map (λ (n : ℕ). Went s n e) w) ts) 0 0 ≡ getD ts 0 0 + oneIf (eqb k (countOf e)) * length w
+    go [] ts = omega arith
+    go (n ∷ w) ts =
+        ap (λ (b : Bool). getD (tallies k s (map (λ (n : ℕ). Went s n e) w) (pick b (bump (oneIf (eqb k (countOf e))) ts) ts)) 0 0) (eq-eqb s s refl)
+        ∙ go w (bump (oneIf (eqb k (countOf e))) ts) ∙ omega (arith, bump-first (oneIf (eqb k (countOf e))) ts)

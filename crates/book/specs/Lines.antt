@@ -87,3 +87,12 @@ openingLines (suc i) = Began i ∷ []
 
 abbrev pub linesOf : List ℕ → ℕ → List ℕ → List Line
 linesOf lent opened written = openingLines opened ++ linesIn (length written) (inputOf lent) written
+
+-- the lines that say something
+abbrev pub telling : List Line → List Line
+telling [] = []
+telling (Began i ∷ ys) = Began i ∷ telling ys
+telling (Came i n ∷ ys) = Came i n ∷ telling ys
+telling (Went i n e ∷ ys) = Went i n e ∷ telling ys
+telling (Given i g ∷ ys) = Given i g ∷ telling ys
+telling (Nothing ∷ ys) = telling ys

@@ -2,7 +2,7 @@
 -- and the number and the room give back its refusal, its token and the bytes that it wrote.
 use Prim.Native.Nat.{ℕ, _+_, _*_, _%_, _≤_, _<_}
 use mathlib.Core.Path.{_≡_, refl, sym, ap, subst, _∙_}
-use mathlib.Core.List.{List, [], _∷_, map}
+use mathlib.Core.List.{List, [], _∷_, _++_, map, append-assoc, append-nil}
 use lib.ListN.{length, take, drop}
 use lib.Seq.{take-at}
 use native.Mathlib.Omega.{arith}
@@ -21,15 +21,18 @@ use Rattle.outcomes.specs.Fresh.{Made, freshOf}
 use Rattle.book.specs.Book.{tallies}
 use Rattle.promises.specs.Answers.{errorsIn, errorsTold}
 use Rattle.promises.specs.Soundness.{Sound}
-use Rattle.promises.specs.History.{Call, Answered, answeredBy, run, history, lines, fates, grantedBy}
-use Rattle.promises.specs.Harness.{Lending, leftOn, cameBack, imageAfter, heard, Harness, imageIn, tableIn, heardIn, nextIn}
+use Rattle.promises.specs.History.{Call, Answered, answeredBy, run, history, lines, fates, grantedBy, saidBy}
+use Rattle.promises.specs.Harness.{Lending, leftOn, cameBack, imageAfter, heard, Harness, imageIn, tableIn, heardIn, nextIn, andThen}
 use Rattle.promises.proofs.Agreement.{Agrees, agrees, are-bytes}
 use Rattle.promises.proofs.Images.{image-tidy}
 use Rattle.promises.proofs.Lent.{shaped}
 use Rattle.promises.proofs.Refused.{refusal-is-all}
 use Rattle.promises.proofs.Room.{room-enough}
 use Rattle.promises.proofs.Steps.{good, fresh-sound}
-use Rattle.promises.proofs.Whole.{told-step}
+use Rattle.promises.proofs.Whole.{read-step, told-step}
+use Rattle.book.specs.declared.Line.{Line}
+use Rattle.book.proofs.Said.{said}
+use Rattle.paper.specs.RecordsIn.{inputOf}
 
 -- On the image of a sound table the call for C is the step of that table.
 pub call-is-step : (t : Table) → Sound t → (r room : List ℕ) → callOf (imageOf t) r room ≡ leaving (imageOf t) room (step t r (length room))
@@ -41,7 +44,7 @@ asCall c = record { bytes = c .bytes; areBytes = c .areBytes; room = length (c .
 
 -- ---- one call
 
-abbrev outcome : Table → Lending → Outcome
+abbrev pub outcome : Table → Lending → Outcome
 outcome t c = step t (c .bytes) (length (c .room))
 
 pub record IsStep (t : Table) (c : Lending) (l : Left) : Type 0 where
@@ -135,3 +138,29 @@ module _ (x : Harness) where
   -- and tells the errors that its records tell
   pub errors-heard : (c : Lending) → errorsTold (nextIn x c .written) ≡ errorsIn (outcome (tableIn x) c .records)
   errors-heard c = ap (λ (a : Answered). errorsTold (a .written)) (next-is c .answer) ∙ told-step (tableIn x) (agreed 0 .sound) (c .bytes) (length (c .room))
+
+  pub refusal-heard : (c : Lending) → nextIn x c .refusal ≡ outcome (tableIn x) c .refusal
+  refusal-heard c = ap (λ (a : Answered). a .refusal) (next-is c .answer)
+
+  -- and says what they say
+  pub lines-heard : (c : Lending) → saidBy (nextIn x c) ≡ said (inputOf (c .bytes)) (outcome (tableIn x) c .opened) (outcome (tableIn x) c .records)
+  lines-heard c = ap saidBy (next-is c .answer) ∙ read-step (tableIn x) (agreed 0 .sound) (c .bytes) (length (c .room))
+
+-- ---- one call more
+
+heard-more : (img : List ℕ) (cs : List Lending) (c : Lending) → heard img (cs ++ (c ∷ [])) ≡ heard img cs ++ (cameBack c (leftOn (imageAfter img cs) c) ∷ [])
+unfolding heard imageAfter
+heard-more img [] c = refl
+heard-more img (b ∷ cs) c = ap (λ (h : List Answered). cameBack b (leftOn img b) ∷ h) (heard-more (leftOn img b .image) cs c)
+
+lines-append : (h g : List Answered) → lines (h ++ g) ≡ lines h ++ lines g
+unfolding lines
+lines-append [] g = refl
+lines-append (a ∷ h) g = ap (λ (ys : List Line). saidBy a ++ ys) (lines-append h g) ∙ sym (append-assoc (saidBy a) (lines h) (lines g))
+
+pub lines-more : (x : Harness) (c : Lending) → lines (heardIn (andThen x c)) ≡ lines (heardIn x) ++ saidBy (nextIn x c)
+unfolding lines
+lines-more x c =
+    ap lines (heard-more (freshOf (x .lent) .image) (x .calls) c)
+    ∙ lines-append (heardIn x) (nextIn x c ∷ [])
+    ∙ ap (λ (ys : List Line). lines (heardIn x) ++ ys) (append-nil (saidBy (nextIn x c)))

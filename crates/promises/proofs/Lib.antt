@@ -18,4 +18,5 @@ pub mod Whole
 -- History and table agree, call by call; what may be named in state 9.
 pub mod Agreement
 pub mod Harness
+pub mod Endings
 pub mod Named

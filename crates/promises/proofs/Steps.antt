@@ -216,7 +216,7 @@ module _ (t : Table) (k : Sound t) where
   shuts q n h = record { kept = k; told = h; seen = shows-still t [] refl }
 
   -- an open number is not 0
-  open-nonzero : (i n : ℕ) → has n (waiting t i) ≡ true → eqb n 0 ≡ false
+  pub open-nonzero : (i n : ℕ) → has n (waiting t i) ≡ true → eqb n 0 ≡ false
   unfolding occurrences
   open-nonzero i n h = ne-eqb n 0 (omega (arith, ltb-true 0 (occ n (waiting t i)) h, sum-at (λ (x : Slot). occ n (x .waiting)) closed refl (t .slots) i, k .once n))
 

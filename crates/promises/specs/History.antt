@@ -47,9 +47,12 @@ history t (c ∷ cs) = answeredBy c (step t (c .bytes) (c .room)) ∷ history (s
 
 -- ---- what a history says
 
+abbrev pub saidBy : Answered → List Line
+saidBy a = linesOf (a .lent) (a .opened) (a .written)
+
 unfoldable pub lines : List Answered → List Line
 lines [] = []
-lines (a ∷ h) = linesOf (a .lent) (a .opened) (a .written) ++ lines h
+lines (a ∷ h) = saidBy a ++ lines h
 
 -- of stream s: its openings, the newest first, each with its indications, the oldest first, and the fate of each
 abbrev pub fates : ℕ → List Answered → List Opening

@@ -1,0 +1,195 @@
+-- Which fate is which: a served accept says 'accepted' of its number and nothing else, a denial 'denied', a W 'withdrawn', a close
+-- 'dropped' of each open one. Each follows from the records that its row writes.
+use Prim.Native.Nat.{ℕ, _+_, _*_, _<_}
+use mathlib.Core.Path.{_≡_, refl, sym, ap, subst, _∙_}
+use mathlib.Core.Bool.{Bool, true, false, false≢true}
+use mathlib.Core.List.{List, [], _∷_, map}
+use lib.ListN.{length, getD}
+use lib.Dec.{eqb}
+use native.Mathlib.Omega.{arith}
+use borrow.Author.Tests.{ne-eqb, not-false}
+use Rattle.ledger.specs.Tally.{oneIf, occ}
+use Rattle.ledger.proofs.Tallies.{chosen, empty}
+use Rattle.paper.specs.Base.{Slot, closed, Table, slot, stream, waiting, ppaNumbers}
+use Rattle.paper.specs.Correlations.{occurrences}
+use Rattle.paper.specs.ErrorOrder.{carrierOf, judgeOther, judgeItself, judgeCarrier, judgeAccept, judgeDenial, judgeDisconnect, isWaiting, judgeServed, judge}
+use Rattle.paper.specs.Events.{callWithdrawn}
+use Rattle.paper.specs.Openings.{goodbye, goodbyes, closes}
+use Rattle.paper.specs.RecordsIn.{inputOf, messageIn}
+use Rattle.paper.specs.RecordsOut.{Record, inOrder}
+use Rattle.paper.specs.Refusals.{Outcome, refused}
+use Rattle.paper.specs.Rows.{ordersOf, flushes, repliesTo, performed}
+use Rattle.paper.specs.Step.{answered, ofOpen, serve, step}
+use Rattle.paper.specs.declared.Carrier.{Carrier}
+use Rattle.paper.specs.declared.Carrier.the-variants.{Itself, Other, None}
+use Rattle.paper.specs.declared.Correlation.{Correlation}
+use Rattle.paper.specs.declared.ConnectResponse.{ConnectResponse}
+use Rattle.paper.specs.declared.DisconnectRequest.{DisconnectRequest}
+use Rattle.paper.specs.declared.Input.{Input}
+use Rattle.paper.specs.declared.Input.the-variants as input
+use Rattle.paper.specs.declared.Request.{Request}
+use Rattle.paper.specs.declared.Request.the-variants as request
+use Rattle.paper.specs.declared.Rule.{Rule}
+use Rattle.paper.specs.declared.Verdict.{Verdict}
+use Rattle.paper.specs.declared.Verdict.the-variants.{Fails}
+use Rattle.book.specs.declared.End.{End}
+use Rattle.book.specs.declared.End.the-variants.{Accepted, Denied, Withdrawn, Dropped}
+use Rattle.book.specs.declared.Line.{Line}
+use Rattle.book.specs.declared.Line.the-variants.{Went}
+use Rattle.book.specs.Lines.{telling}
+use Rattle.book.specs.Book.{countOf, tallies}
+use Rattle.book.proofs.Counts.{ends-counted}
+use Rattle.book.proofs.Said.{lineOf, said}
+use Rattle.book.proofs.Shades.{tallies-append}
+use Rattle.book.proofs.Sums.{sum-at}
+use Rattle.promises.specs.Answers.{errorsIn, errorsTold, Complete}
+use Rattle.promises.specs.History.{saidBy, lines, openBy, counted, accepted, denied, withdrawn, dropped}
+use Rattle.promises.specs.Harness.{Lending, Harness, tableIn, heardIn, nextIn, andThen}
+use Rattle.promises.specs.Soundness.{Sound}
+use Rattle.promises.proofs.Changes.{quiet}
+use Rattle.promises.proofs.Harness.{outcome, agreed, errors-heard, lines-heard, refusal-heard, lines-more}
+use Rattle.promises.proofs.OutState.{answers}
+use Rattle.promises.proofs.Steps.{open-nonzero}
+use Rattle.promises.proofs.Tested.{sound-test}
+
+-- ---- of a message: by the verdict on it
+
+-- where no error is told, these lines are
+record Tells (t : Table) (i l : ℕ) (ys : List Line) (v : Verdict) : Type 0 where
+  tells : (m : List ℕ) → errorsIn (answered t i m v .records) ≡ []
+      → telling (said (input.Message i l) (answered t i m v .opened) (answered t i m v .records)) ≡ ys
+
+module _ (t : Table) (i l : ℕ) where
+  fails : (ys : List Line) (r : Rule) → Tells t i l ys (Fails r)
+  unfolding answered
+  fails ys r = record { tells = λ m e. absurd (omega (arith, ap length e)) }
+
+  module _ (n : Correlation) where
+    abbrev Accepts : Verdict → Type 0
+    Accepts = Tells t i l (Went i (n .0) Accepted ∷ [])
+
+    tells-carrier : (c : Carrier) → Accepts (judgeCarrier (stream t i) n (length (waiting t i)) c)
+    unfolding judgeCarrier judgeItself judgeOther answered performed inOrder ordersOf flushes repliesTo
+    tells-carrier Itself = chosen Accepts _ _ _ (λ e. fails _ _) (λ e. record { tells = λ m z. refl })
+    tells-carrier None = fails _ _
+    tells-carrier (Other c x) = chosen Accepts _ _ _ (λ e. fails _ _) (λ e. chosen Accepts _ _ _ (λ e. fails _ _) (λ e. chosen Accepts _ _ _ (λ e. fails _ _) (λ e. record { tells = λ m z. refl })))
+
+  tells-accept : (a : ConnectResponse) → Tells t i l (Went i (a .correlation .0) Accepted ∷ []) (judge t i (request.ConnectRes a))
+  unfolding judge judgeServed judgeAccept
+  tells-accept a = chosen (Accepts (a .correlation)) _ _ _ (λ e. fails _ _) (λ e. chosen (Accepts (a .correlation)) _ _ _ (λ e. fails _ _)
+      (λ e. chosen (Accepts (a .correlation)) _ _ _ (λ e. fails _ _) (λ e. tells-carrier (a .correlation) (carrierOf t i (a .token)))))
+
+  tells-denial : (d : DisconnectRequest) → 0 < d .correlation .0 → Tells t i l (Went i (d .correlation .0) Denied ∷ []) (judge t i (request.Disconnect d))
+  unfolding judge judgeServed judgeDisconnect judgeDenial answered performed inOrder ordersOf flushes repliesTo
+  tells-denial d h =
+      let some : eqb (d .correlation .0) 0 ≡ false = ne-eqb (d .correlation .0) 0 (λ e. omega (arith, e)) in
+      chosen Denies _ _ _ (λ e. fails _ _)
+      (λ e. chosen Denies _ _ _ (λ e. chosen Denies _ _ _ (λ e. fails _ _) (λ e. record { tells = λ m z. rw some }))
+      (λ e. chosen Denies _ _ _ (λ e. fails _ _) (λ e. absurd (false≢true (sym some ∙ not-false _ e)))))
+    where
+      Denies : Verdict → Type 0
+      Denies = Tells t i l (Went i (d .correlation .0) Denied ∷ [])
+
+-- what a complete message says where no error is told
+message-says : (x : Harness) (c : Lending) (s : ℕ) (q : Request) (ys : List Line) → (m : Complete (tableIn x) (c .bytes) (length (c .room)) s q)
+    → Tells (tableIn x) s (m .size) ys (judge (tableIn x) s q) → errorsTold (nextIn x c .written) ≡ [] → telling (saidBy (nextIn x c)) ≡ ys
+message-says x c s q ys m h e =
+    let o : outcome (tableIn x) c ≡ answered (tableIn x) s (messageIn (c .bytes) (m .size)) (judge (tableIn x) s q)
+    = answers (tableIn x) (sound-test (tableIn x) (agreed x s .sound)) (c .bytes) (length (c .room)) s q m in
+    ap telling (lines-heard x c ∙ ap (λ (p : Input). said p (outcome (tableIn x) c .opened) (outcome (tableIn x) c .records)) (m .read) ∙ ap (λ (o : Outcome). said (input.Message s (m .size)) (o .opened) (o .records)) o)
+    ∙ h .tells (messageIn (c .bytes) (m .size)) (ap (λ (o : Outcome). errorsIn (o .records)) (sym o) ∙ sym (errors-heard x c) ∙ e)
+
+-- ---- of an event and of a close: by what the call comes to
+
+record Says (q : Input) (ys : List Line) (o : Outcome) : Type 0 where
+  says : o .refusal ≡ 0 → telling (said q (o .opened) (o .records)) ≡ ys
+
+refuses : (q : Input) (ys : List Line) (t : Table) (n : ℕ) → 0 < n → Says q ys (refused t n)
+refuses q ys t n h = record { says = λ e. absurd (omega arith) }
+
+says-step : (t : Table) (r : List ℕ) (room : ℕ) (q : Input) (ys : List Line) → inputOf r ≡ q → Says q ys (serve t r q) → Says q ys (step t r room)
+unfolding step
+says-step t r room q ys e h = chosen (Says q ys) _ _ _ (λ f. refuses q ys t _ (omega arith)) (λ f. chosen (Says q ys) _ _ _ (λ f. refuses q ys t _ (omega arith)) (λ f. chosen (Says q ys) _ _ _ (λ f. refuses q ys t _ (omega arith))
+    (λ f. subst (λ (p : Input). Says q ys (serve t r p)) (sym e) h)))
+
+module _ (t : Table) (k : Sound t) (i : ℕ) where
+  says-open : (q : Input) (ys : List Line) (o : Outcome) → Says q ys o → Says q ys (ofOpen t i o)
+  unfolding ofOpen
+  says-open q ys o h = chosen (Says q ys) _ _ _ (λ e. refuses q ys t _ (omega arith)) (λ e. h)
+
+  says-withdrawn : (n : Correlation) (reason : ℕ) → Says (input.CallWithdrawn i n reason) (Went i (n .0) Withdrawn ∷ []) (callWithdrawn t i n reason)
+  unfolding callWithdrawn isWaiting
+  says-withdrawn n reason = chosen (Says (input.CallWithdrawn i n reason) (Went i (n .0) Withdrawn ∷ [])) _ _ _ (λ e. record { says = λ z. rw (open-nonzero t k i (n .0) e) }) (λ e. refuses _ _ t _ (omega arith))
+
+  no-zero : occ 0 (waiting t i) ≡ 0
+  unfolding occurrences
+  no-zero = omega (arith, sum-at (λ (x : Slot). occ 0 (x .waiting)) closed refl (t .slots) i, k .once 0)
+
+  drops : (w : List ℕ) → occ 0 w ≡ 0 → telling (map (lineOf (input.Close i)) (map (goodbye i) w)) ≡ map (λ (n : ℕ). Went i n Dropped) w
+  drops [] z = refl
+  drops (n ∷ w) z = rw (ne-eqb n 0 (some (eqb 0 n) refl z)) (ap (λ (ys : List Line). Went i n Dropped ∷ ys) (drops w (omega arith)))
+    where
+      some : (b : Bool) → eqb 0 n ≡ b → oneIf b + occ 0 w ≡ 0 → n ≡ 0 → ⊥
+      some true e z f = omega (arith, z)
+      some false e z f = false≢true (sym e ∙ ap (eqb 0) f)
+
+  says-closes : Says (input.Close i) (map (λ (n : ℕ). Went i n Dropped) (waiting t i)) (closes t i)
+  unfolding closes goodbyes
+  says-closes = record { says = λ z. chosen Drops _ _ _ (λ e. drops (waiting t i) no-zero) (λ e. rw (empty (waiting t i) (quiet (ppaNumbers t) (slot t i) (k .each i) e)) (chosen (λ (rs : List Record). telling (map (lineOf (input.Close i)) rs) ≡ []) _ _ _ (λ f. refl) (λ f. refl))) }
+    where
+      Drops : List Record → Type 0
+      Drops rs = telling (map (lineOf (input.Close i)) rs) ≡ map (λ (n : ℕ). Went i n Dropped) (waiting t i)
+
+input-says : (x : Harness) (c : Lending) (q : Input) (ys : List Line) → inputOf (c .bytes) ≡ q → Says q ys (serve (tableIn x) (c .bytes) q) → nextIn x c .refusal ≡ 0 → telling (saidBy (nextIn x c)) ≡ ys
+input-says x c q ys e h z =
+    ap telling (lines-heard x c ∙ ap (λ (p : Input). said p (outcome (tableIn x) c .opened) (outcome (tableIn x) c .records)) e)
+    ∙ says-step (tableIn x) (c .bytes) (length (c .room)) q ys e h .says (sym (refusal-heard x c) ∙ z)
+
+-- ---- the laws: what is heard of one call more
+
+-- A served accept of number n says 'accepted' of n and nothing else,
+pub accept-says : (x : Harness) (c : Lending) (s : ℕ) (a : ConnectResponse) → Complete (tableIn x) (c .bytes) (length (c .room)) s (request.ConnectRes a)
+    → errorsTold (nextIn x c .written) ≡ [] → telling (saidBy (nextIn x c)) ≡ Went s (a .correlation .0) Accepted ∷ []
+accept-says x c s a m = message-says x c s (request.ConnectRes a) _ m (tells-accept (tableIn x) s (m .size) a)
+
+-- a denial of n 'denied' of n,
+pub denial-says : (x : Harness) (c : Lending) (s : ℕ) (d : DisconnectRequest) → Complete (tableIn x) (c .bytes) (length (c .room)) s (request.Disconnect d) → 0 < d .correlation .0
+    → errorsTold (nextIn x c .written) ≡ [] → telling (saidBy (nextIn x c)) ≡ Went s (d .correlation .0) Denied ∷ []
+denial-says x c s d m h = message-says x c s (request.Disconnect d) _ m (tells-denial (tableIn x) s (m .size) d h)
+
+-- a W of n 'withdrawn' of n,
+pub withdrawal-says : (x : Harness) (c : Lending) (s : ℕ) (n : Correlation) (reason : ℕ) → inputOf (c .bytes) ≡ input.CallWithdrawn s n reason
+    → nextIn x c .refusal ≡ 0 → telling (saidBy (nextIn x c)) ≡ Went s (n .0) Withdrawn ∷ []
+withdrawal-says x c s n reason e = input-says x c _ _ e (says-open (tableIn x) (agreed x s .sound) s _ _ _ (says-withdrawn (tableIn x) (agreed x s .sound) s n reason))
+
+-- and a close 'dropped' of each open one, oldest first.
+pub close-says : (x : Harness) (c : Lending) (s : ℕ) → inputOf (c .bytes) ≡ input.Close s
+    → nextIn x c .refusal ≡ 0 → telling (saidBy (nextIn x c)) ≡ map (λ (n : ℕ). Went s n Dropped) (openBy s (heardIn x))
+close-says x c s e z =
+    input-says x c _ _ e (says-open (tableIn x) (agreed x s .sound) s _ _ _ (says-closes (tableIn x) (agreed x s .sound) s)) z
+    ∙ ap (map (λ (n : ℕ). Went s n Dropped)) (sym (agreed x s .now))
+
+-- ---- and so each is counted under its own name, in the stream's newest opening
+
+counts-by : (x : Harness) (c : Lending) (k s : ℕ) (e : End) (w : List ℕ) → telling (saidBy (nextIn x c)) ≡ map (λ (n : ℕ). Went s n e) w
+    → counted k s 0 (heardIn (andThen x c)) ≡ counted k s 0 (heardIn x) + oneIf (eqb k (countOf e)) * length w
+counts-by x c k s e w h =
+    ap (λ (ys : List Line). getD (tallies k s ys []) 0 0) (lines-more x c)
+    ∙ ap (λ (l : List ℕ). getD l 0 0) (tallies-append k s (lines (heardIn x)) (saidBy (nextIn x c)) [])
+    ∙ ends-counted k s e w (saidBy (nextIn x c)) (tallies k s (lines (heardIn x)) []) h
+
+pub accept-counts : (x : Harness) (c : Lending) (s : ℕ) (a : ConnectResponse) → Complete (tableIn x) (c .bytes) (length (c .room)) s (request.ConnectRes a)
+    → errorsTold (nextIn x c .written) ≡ [] → accepted s 0 (heardIn (andThen x c)) ≡ accepted s 0 (heardIn x) + 1
+accept-counts x c s a m e = counts-by x c 1 s Accepted (a .correlation .0 ∷ []) (accept-says x c s a m e)
+
+pub denial-counts : (x : Harness) (c : Lending) (s : ℕ) (d : DisconnectRequest) → Complete (tableIn x) (c .bytes) (length (c .room)) s (request.Disconnect d) → 0 < d .correlation .0
+    → errorsTold (nextIn x c .written) ≡ [] → denied s 0 (heardIn (andThen x c)) ≡ denied s 0 (heardIn x) + 1
+denial-counts x c s d m h e = counts-by x c 2 s Denied (d .correlation .0 ∷ []) (denial-says x c s d m h e)
+
+pub withdrawal-counts : (x : Harness) (c : Lending) (s : ℕ) (n : Correlation) (reason : ℕ) → inputOf (c .bytes) ≡ input.CallWithdrawn s n reason
+    → nextIn x c .refusal ≡ 0 → withdrawn s 0 (heardIn (andThen x c)) ≡ withdrawn s 0 (heardIn x) + 1
+withdrawal-counts x c s n reason e z = counts-by x c 3 s Withdrawn (n .0 ∷ []) (withdrawal-says x c s n reason e z)
+
+pub close-counts : (x : Harness) (c : Lending) (s : ℕ) → inputOf (c .bytes) ≡ input.Close s
+    → nextIn x c .refusal ≡ 0 → dropped s 0 (heardIn (andThen x c)) ≡ dropped s 0 (heardIn x) + length (openBy s (heardIn x))
+close-counts x c s e z = counts-by x c 4 s Dropped (openBy s (heardIn x)) (close-says x c s e z) ∙ omega arith
