@@ -6,7 +6,6 @@ use mathlib.Core.List.{List, [], _∷_, _++_, append-assoc, append-nil}
 use lib.ListN.{length, getD}
 use native.Mathlib.Omega.{arith}
 use Rattle.ledger.specs.Tally.{has, sumOf, firstOf}
-use Rattle.paper.specs.Base.{fresh}
 use Rattle.book.specs.declared.End.{End}
 use Rattle.book.specs.declared.Line.{Line}
 use Rattle.book.specs.Book.{Opening, openOf, openCount, leftOpen, newest, posts, tallies, overStreams}
@@ -16,8 +15,9 @@ use Rattle.register.proofs.Kept.{fine-front, kept-openings, kept-counts, kept-o
 use Rattle.register.proofs.Places.{asked}
 use Rattle.register.proofs.Whole.{over-same}
 use Rattle.report.specs.Report.{spaced, numbers, wordOf, wordCall, wordOpening, wordTotal, callLine, openingLine, openOnAll, totalLine}
-use Rattle.promises.specs.History.{Call, Answered, history, lines, fates, indicated, accepted, denied, withdrawn, dropped}
-use Rattle.promises.proofs.Agreement.{agrees, fair-history}
+use Rattle.promises.specs.History.{Answered, history, lines, fates, indicated, accepted, denied, withdrawn, dropped}
+use Rattle.promises.specs.Harness.{Harness, heardIn}
+use Rattle.promises.proofs.Harness.{agreed, fair-heard}
 use Rattle.fates.specs.Told.{Told}
 use Rattle.fates.specs.Shown.{openingShown, callShown, totalOf, totalShown}
 
@@ -72,12 +72,12 @@ over-open : (l : List ℕ) (n : ℕ) → openOnAll n 0 l ≡ overStreams n (λ s
 unfolding overStreams
 over-open l n = let z : 0 + openOnAll n 0 l ≡ overStreams n (λ s. openOn s l) = over-from l n n 0 (omega arith) in omega arith
 
-module _ (img register : List ℕ) (w : Told img register) (short : length (lines (history fresh (w .calls))) < 18446744073709551615) where
+module _ (img register : List ℕ) (w : Told img register) (short : length (lines (heardIn (w .harness))) < 18446744073709551615) where
   abbrev pub h : List Answered
-  h = history fresh (w .calls)
+  h = heardIn (w .harness)
 
-  fine : (s : ℕ) → s < 16 → (fairs s (lines (history fresh (w .calls))) [] ≡ true) × (rooteds s (lines (history fresh (w .calls))) 0 ≡ true)
-  fine s m = fair-history s (w .calls)
+  fine : (s : ℕ) → s < 16 → (fairs s (lines (heardIn (w .harness))) [] ≡ true) × (rooteds s (lines (heardIn (w .harness))) 0 ≡ true)
+  fine s m = fair-heard (w .harness) s
 
   open-is : (s : ℕ) → s < 16 → openOn s register ≡ openCount (newest (fates s h))
   open-is s m = ap (openOn s) (w .entered) ∙ kept-open (lines h) fine short s m
@@ -95,7 +95,7 @@ module _ (img register : List ℕ) (w : Told img register) (short : length (line
 
   open-all : openOnAll 16 0 register ≡ overStreams 16 (λ s. sumOf openCount (fates s h))
   open-all =
-      over-open register 16 ∙ over-same 16 (λ s. sumOf openCount (fates s h)) (λ s. openOn s register) (λ s m. open-is s m ∙ sym (all-open (fates s h) (agrees s (w .calls) .left)))
+      over-open register 16 ∙ over-same 16 (λ s. sumOf openCount (fates s h)) (λ s. openOn s register) (λ s m. open-is s m ∙ sym (all-open (fates s h) (agreed (w .harness) s .left)))
 
   -- The last line shows the counts over all openings of all streams.
   pub total-told : totalLine register ≡ totalShown h
@@ -110,11 +110,11 @@ module _ (img register : List ℕ) (w : Told img register) (short : length (line
 -- ---- the line of a call, at any line of a history
 
 -- The line of a call that ends shows the place and the number of that very call: xs are the lines up to there.
-pub call-told : (cs : List Call) (xs ys : List Line) → lines (history fresh cs) ≡ xs ++ ys → length xs < 18446744073709551615
+pub call-told : (x : Harness) (xs ys : List Line) → lines (heardIn x) ≡ xs ++ ys → length xs < 18446744073709551615
     → (s n : ℕ) (e : End) → s < 16 → has n (openOf (newest (posts s xs []))) ≡ true
     → callLine s (placeOf s n (enteredAll xs blank)) (wordOf e) (enteredAll xs blank) ≡ callShown s n e (posts s xs [])
 unfolding callShown
-call-told cs xs ys q short s n e m f =
+call-told x xs ys q short s n e m f =
     ap (λ (l : List ℕ). l ++ numbers 2 (placeOf s n (enteredAll xs blank)) (enteredAll xs blank) ++ wordOf e ++ (10 ∷ []))
     (one-number (wordCall ++ spaced s) (s * 24) (length (posts s xs [])) (enteredAll xs blank) (kept-openings xs fine short s m))
     ∙ ap (λ (l : List ℕ). l ++ wordOf e ++ (10 ∷ []))
@@ -122,4 +122,4 @@ call-told cs xs ys q short s n e m f =
     (found-place xs fine short s n m f) (found-number xs fine short s n m f))
   where
     fine : (s : ℕ) → s < 16 → (fairs s xs [] ≡ true) × (rooteds s xs 0 ≡ true)
-    fine = fine-front xs ys (λ s m. subst (λ (zs : List Line). (fairs s zs [] ≡ true) × (rooteds s zs 0 ≡ true)) q (fair-history s cs))
+    fine = fine-front xs ys (λ s m. subst (λ (zs : List Line). (fairs s zs [] ≡ true) × (rooteds s zs 0 ≡ true)) q (fair-heard x s))

@@ -1,21 +1,20 @@
--- What holds between two calls of fates: its table and its register are those of a history from a fresh table.
-use Prim.Native.Nat.{ℕ, _/_, _%_}
+-- What holds between two calls of fates: its table and its register are those of a harness, of what it holds and what it heard.
+use Prim.Native.Nat.{ℕ}
 use mathlib.Core.Path.{_≡_}
 use mathlib.Core.List.{List}
 use lib.ListN.{take}
-use Rattle.paper.specs.Base.{fresh}
-use Rattle.image.specs.Layout.{imageOf}
-use Rattle.outcomes.specs.Leaving.{Left}
+use Rattle.outcomes.specs.Leaving.{Left, tokenIn, writtenIn}
 use Rattle.book.specs.declared.Line.{Line}
 use Rattle.book.specs.Lines.{linesOf}
 use Rattle.register.specs.Register.{blank, enteredAll}
-use Rattle.promises.specs.History.{Call, run, history, lines}
+use Rattle.promises.specs.History.{lines}
+use Rattle.promises.specs.Harness.{Harness, imageIn, heardIn}
 
 pub record Told (img register : List ℕ) : Type 0 where
-  pub calls : List Call
-  pub table : img ≡ imageOf (run fresh calls)
-  pub entered : register ≡ enteredAll (lines (history fresh calls)) blank
+  pub harness : Harness
+  pub table : img ≡ imageIn harness
+  pub entered : register ≡ enteredAll (lines (heardIn harness)) blank
 
 -- what a call says: of the record lent, the token and the bytes written
 abbrev pub linesBy : List ℕ → Left → List Line
-linesBy r l = linesOf r (l .number / 16777216) (take (l .number % 65536) (l .room))
+linesBy r l = linesOf r (tokenIn (l .number)) (take (writtenIn (l .number)) (l .room))

@@ -26,7 +26,7 @@ use Rattle.book.proofs.Counts.{sums, none-left}
 use Rattle.book.proofs.Sums.{sum-at, sum-two}
 use Rattle.promises.specs.Answers.{errorsIn, gets, Complete, errorsTold}
 use Rattle.promises.specs.History.{Call, run, history, lines, fates, openBy, grantedBy, counted, indicated, accepted, denied, withdrawn, dropped, leftOpenIn, Answered}
-use Rattle.promises.proofs.Agreement.{agrees, are-bytes, fair-history}
+use Rattle.promises.proofs.Agreement.{agrees, are-bytes}
 use Rattle.promises.proofs.Changes.{quiet, in-nine}
 use Rattle.promises.proofs.Named.{names-accept, names-denial}
 use Rattle.promises.proofs.OutState.{answers, answer-tells}
@@ -40,7 +40,7 @@ use Rattle.book.specs.declared.Line.the-variants.{Went}
 use Rattle.book.proofs.Shades.{fairs, open-posts, went-open}
 use Rattle.promises.specs.Harness.{Lending, Harness, imageIn, tableIn, heardIn, nextIn}
 use Rattle.promises.specs.Soundness.{Sound}
-use Rattle.promises.proofs.Harness.{callsOf, image-is, history-is, agreed, errors-heard}
+use Rattle.promises.proofs.Harness.{fair-heard, callsOf, image-is, history-is, agreed, errors-heard}
 use Rattle.promises.proofs.Images.{image-sound}
 
 -- ---- no call gives 16
@@ -134,7 +134,7 @@ pub only-open-ones-end : (x : Harness) (s n : ℕ) (e : End) (before after : Lis
     → has n (openOf (newest (posts s before []))) ≡ true
 only-open-ones-end x s n e before after z =
     ap (has n) (open-posts s before [])
-    ∙ went-open s n e before after [] (ap (λ (ys : List Line). fairs s ys []) (sym z ∙ ap lines (history-is x)) ∙ fair-history s (callsOf x) .0)
+    ∙ went-open s n e before after [] (ap (λ (ys : List Line). fairs s ys []) (sym z) ∙ fair-heard x s .0)
 
 -- "No two open ones in the table bear one number": not on one stream,
 pub once-on-a-stream : (x : Harness) (s n : ℕ) → occ n (openBy s (heardIn x)) ≤ 1

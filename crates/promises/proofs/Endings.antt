@@ -180,16 +180,16 @@ counts-by x c k s e w h =
 
 pub accept-counts : (x : Harness) (c : Lending) (s : ℕ) (a : ConnectResponse) → Complete (tableIn x) (c .bytes) (length (c .room)) s (request.ConnectRes a)
     → errorsTold (nextIn x c .written) ≡ [] → accepted s 0 (heardIn (andThen x c)) ≡ accepted s 0 (heardIn x) + 1
-accept-counts x c s a m e = counts-by x c 1 s Accepted (a .correlation .0 ∷ []) (accept-says x c s a m e)
+accept-counts x c s a m e = counts-by x c (countOf Accepted) s Accepted (a .correlation .0 ∷ []) (accept-says x c s a m e)
 
 pub denial-counts : (x : Harness) (c : Lending) (s : ℕ) (d : DisconnectRequest) → Complete (tableIn x) (c .bytes) (length (c .room)) s (request.Disconnect d) → 0 < d .correlation .0
     → errorsTold (nextIn x c .written) ≡ [] → denied s 0 (heardIn (andThen x c)) ≡ denied s 0 (heardIn x) + 1
-denial-counts x c s d m h e = counts-by x c 2 s Denied (d .correlation .0 ∷ []) (denial-says x c s d m h e)
+denial-counts x c s d m h e = counts-by x c (countOf Denied) s Denied (d .correlation .0 ∷ []) (denial-says x c s d m h e)
 
 pub withdrawal-counts : (x : Harness) (c : Lending) (s : ℕ) (n : Correlation) (reason : ℕ) → inputOf (c .bytes) ≡ input.CallWithdrawn s n reason
     → nextIn x c .refusal ≡ 0 → withdrawn s 0 (heardIn (andThen x c)) ≡ withdrawn s 0 (heardIn x) + 1
-withdrawal-counts x c s n reason e z = counts-by x c 3 s Withdrawn (n .0 ∷ []) (withdrawal-says x c s n reason e z)
+withdrawal-counts x c s n reason e z = counts-by x c (countOf Withdrawn) s Withdrawn (n .0 ∷ []) (withdrawal-says x c s n reason e z)
 
 pub close-counts : (x : Harness) (c : Lending) (s : ℕ) → inputOf (c .bytes) ≡ input.Close s
     → nextIn x c .refusal ≡ 0 → dropped s 0 (heardIn (andThen x c)) ≡ dropped s 0 (heardIn x) + length (openBy s (heardIn x))
-close-counts x c s e z = counts-by x c 4 s Dropped (openBy s (heardIn x)) (close-says x c s e z) ∙ omega arith
+close-counts x c s e z = counts-by x c (countOf Dropped) s Dropped (openBy s (heardIn x)) (close-says x c s e z) ∙ omega arith

@@ -2,6 +2,7 @@
 -- and the number and the room give back its refusal, its token and the bytes that it wrote.
 use Prim.Native.Nat.{ℕ, _+_, _*_, _%_, _≤_, _<_}
 use mathlib.Core.Path.{_≡_, refl, sym, ap, subst, _∙_}
+use mathlib.Core.Bool.{true}
 use mathlib.Core.List.{List, [], _∷_, _++_, map, append-assoc, append-nil}
 use lib.ListN.{length, take, drop}
 use lib.Seq.{take-at}
@@ -23,7 +24,8 @@ use Rattle.promises.specs.Answers.{errorsIn, errorsTold}
 use Rattle.promises.specs.Soundness.{Sound}
 use Rattle.promises.specs.History.{Call, Answered, answeredBy, run, history, lines, fates, grantedBy, saidBy}
 use Rattle.promises.specs.Harness.{Lending, leftOn, cameBack, imageAfter, heard, Harness, imageIn, tableIn, heardIn, nextIn, andThen}
-use Rattle.promises.proofs.Agreement.{Agrees, agrees, are-bytes}
+use Rattle.promises.proofs.Agreement.{Agrees, agrees, are-bytes, fair-history}
+use Rattle.book.proofs.Shades.{fairs, rooteds}
 use Rattle.promises.proofs.Images.{image-tidy}
 use Rattle.promises.proofs.Lent.{shaped}
 use Rattle.promises.proofs.Refused.{refusal-is-all}
@@ -146,7 +148,19 @@ module _ (x : Harness) where
   pub lines-heard : (c : Lending) → saidBy (nextIn x c) ≡ said (inputOf (c .bytes)) (outcome (tableIn x) c .opened) (outcome (tableIn x) c .records)
   lines-heard c = ap saidBy (next-is c .answer) ∙ read-step (tableIn x) (agreed 0 .sound) (c .bytes) (length (c .room))
 
+  -- each line is fair, and comes to an opening
+  pub fair-heard : (s : ℕ) → (fairs s (lines (heardIn x)) [] ≡ true) × (rooteds s (lines (heardIn x)) 0 ≡ true)
+  fair-heard s = subst (λ (h : List Answered). (fairs s (lines h) [] ≡ true) × (rooteds s (lines h) 0 ≡ true)) (sym history-is) (fair-history s callsOf)
+
 -- ---- one call more
+
+pub image-more : (x : Harness) (c : Lending) → imageIn (andThen x c) ≡ leftOn (imageIn x) c .image
+unfolding imageAfter
+image-more x c = go (freshOf (x .lent) .image) (x .calls)
+  where
+    go : (img : List ℕ) (cs : List Lending) → imageAfter img (cs ++ (c ∷ [])) ≡ leftOn (imageAfter img cs) c .image
+    go img [] = refl
+    go img (b ∷ cs) = go (leftOn img b .image) cs
 
 heard-more : (img : List ℕ) (cs : List Lending) (c : Lending) → heard img (cs ++ (c ∷ [])) ≡ heard img cs ++ (cameBack c (leftOn (imageAfter img cs) c) ∷ [])
 unfolding heard imageAfter

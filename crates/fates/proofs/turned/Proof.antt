@@ -23,7 +23,7 @@ called-requires : tie.Need-called-requires
 called-requires c κs =
     let start = c .before .before .before .before .before .before .before .before .before .before .before in
     let o = c .before .before .before in
-    (start .pre .0, search needs, search needs, search needs, search needs, omega (arith, not-over (start .args .t) (sym (o .before .is-over .ensures) ∙ o .if2 .left)))
+    (start .pre .0, search needs, search needs, search needs, search needs, omega (arith, start .good .1 .1 .1 .1 .0 .1 .1 .1 .1 .1 .1 .0, not-over (start .args .t) (sym (o .before .is-over .ensures) ∙ o .if2 .left)))
 
 returns-3 : tie.Need-returns-3
 unfolding turnAfter tableAfter registerAfter outputAfter _⇒_∣_
