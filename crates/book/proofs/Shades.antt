@@ -6,7 +6,7 @@ use mathlib.Core.List.{List, [], _∷_, _++_, map}
 use lib.ListN.{length}
 use lib.Dec.{eqb, ltb}
 use native.Mathlib.Omega.{arith}
-use borrow.Author.Tests.{eqb-true, eq-eqb, lt-ltb}
+use borrow.Author.Tests.{eqb-true, eq-eqb, ltb-true, lt-ltb}
 use Rattle.ledger.specs.Choice.{pick, both}
 use Rattle.ledger.specs.Tally.{oneIf, occ, has, without}
 use Rattle.ledger.proofs.Tallies.{both-of, to-both, picked}
@@ -226,3 +226,42 @@ went-open s n e [] ys w h =
 went-open s n e (x ∷ xs) ys w h =
     let f : (fair s x w ≡ true) × (fairs s (xs ++ (Went s n e ∷ ys)) (shade s x w) ≡ true) = both-of _ _ h in
     went-open s n e xs ys (shade s x w) (f .1)
+
+-- ---- as many openings as were begun
+
+pub openings-append : (s : ℕ) (xs ys : List Line) (k : ℕ) → openingsIn s (xs ++ ys) k ≡ openingsIn s ys (openingsIn s xs k)
+openings-append s [] ys k = refl
+openings-append s (x ∷ xs) ys k = openings-append s xs ys (openings s x k)
+
+length-front : (g : Opening → Opening) (b : List Opening) → 0 < length b → length (onNewest g b) ≡ length b
+length-front g [] h = absurd (omega arith)
+length-front g (o ∷ b) h = refl
+
+-- where one of the newest opening is open, there is one
+open-some : (n : ℕ) (b : List Opening) → has n (openOf (newest b)) ≡ true → 0 < length b
+open-some n [] h = absurd (omega (arith, ltb-true 0 0 h))
+open-some n (o ∷ b) h = omega arith
+
+length-post : (s : ℕ) (y : Line) (b : List Opening) → fair s y (openOf (newest b)) ≡ true → rooted s y (length b) ≡ true → length (post s y b) ≡ openings s y (length b)
+length-post s (Began i) b f r = pick-to length (eqb s i) ([] ∷ b) b refl
+length-post s (Came i n) b f r = go (eqb s i) r
+  where
+    go : (q : Bool) → pick q (ltb 0 (length b)) true ≡ true → length (pick q (onNewest (noted n) b) b) ≡ length b
+    go true h = length-front (noted n) b (ltb-true _ _ h)
+    go false h = refl
+length-post s (Went i n e) b f r = go (eqb s i) f
+  where
+    go : (q : Bool) → pick q (has n (openOf (newest b))) true ≡ true → length (pick q (onNewest (mark n e) b) b) ≡ length b
+    go true h = length-front (mark n e) b (open-some n b h)
+    go false h = refl
+length-post s (Given i g) b f r = refl
+length-post s Nothing b f r = refl
+
+pub length-posts : (s : ℕ) (ys : List Line) (b : List Opening) → fairs s ys (openOf (newest b)) ≡ true → rooteds s ys (length b) ≡ true → length (posts s ys b) ≡ openingsIn s ys (length b)
+unfolding posts
+length-posts s [] b f r = refl
+length-posts s (y ∷ ys) b f r =
+    let f′ : (fair s y (openOf (newest b)) ≡ true) × (fairs s ys (shade s y (openOf (newest b))) ≡ true) = both-of _ _ f in
+    let r′ : (rooted s y (length b) ≡ true) × (rooteds s ys (openings s y (length b)) ≡ true) = both-of _ _ r in
+    let l : length (post s y b) ≡ openings s y (length b) = length-post s y b (f′ .0) (r′ .0) in
+    length-posts s ys (post s y b) (ap (fairs s ys) (open-post s y b) ∙ f′ .1) (ap (rooteds s ys) l ∙ r′ .1) ∙ ap (openingsIn s ys) l

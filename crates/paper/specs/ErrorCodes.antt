@@ -1,4 +1,4 @@
--- 'Answers with ERROR_ACK': the codes, and for each rule its error and its step.
+-- 'Answers with ERROR_ACK': the codes, and the error of each rule.
 use Prim.Native.Nat.{ℕ}
 use Rattle.paper.specs.declared.Rule.{Rule}
 use Rattle.paper.specs.declared.Rule.the-variants as rule
@@ -43,7 +43,7 @@ noAuto = 0x16
 abbrev pub pending : ℕ
 pending = 0x1b
 
--- The error that each rule answers with,
+-- The error that each rule answers with.
 abbrev pub errorOf : Rule → ℕ
 errorOf rule.NotSupported = notSupported
 errorOf rule.NotServed = badPrim
@@ -70,31 +70,3 @@ errorOf rule.CarrierOfOtherPpa = access
 errorOf rule.CarrierConnectionless = access
 errorOf rule.DenialNotOpen = badCorr
 errorOf rule.NumberNotZero = badCorr
-
--- and the step of the order that it belongs to.
-abbrev pub stepOf : Rule → ℕ
-stepOf rule.NotSupported = 1
-stepOf rule.NotServed = 1
-stepOf rule.TooShort = 1
-stepOf rule.NoRow = 2
-stepOf rule.UnknownPpa = 3
-stepOf rule.UnknownMode = 4
-stepOf rule.Management = 4
-stepOf rule.AutomaticXid = 4
-stepOf rule.SapNotAllowed = 4
-stepOf rule.TypeInModeOne = 4
-stepOf rule.ListenedFor = 4
-stepOf rule.ConnectQos = 5
-stepOf rule.AddressLength = 5
-stepOf rule.AddressTooEarly = 5
-stepOf rule.AddressTooLate = 5
-stepOf rule.AddressSapOdd = 5
-stepOf rule.AcceptNotOpen = 6
-stepOf rule.AcceptQos = 6
-stepOf rule.OthersOpen = 6
-stepOf rule.TokenOfNone = 6
-stepOf rule.CarrierNotIdle = 6
-stepOf rule.CarrierOfOtherPpa = 6
-stepOf rule.CarrierConnectionless = 6
-stepOf rule.DenialNotOpen = 7
-stepOf rule.NumberNotZero = 7

@@ -1,25 +1,38 @@
--- 'Measured examples': the cases marked *, as one list. Each is a fresh table, the calls that lead up to the case, the
--- call itself with the room lent to it, and what it must come to.
-use Prim.Native.Nat.{ℕ, _+_, _^_, _-_}
-use mathlib.Core.Bool.{Bool, not}
-use mathlib.Core.List.{List, [], _∷_, _++_}
-use lib.ListN.{length, getD}
-use lib.Dec.{eqb}
-use Rattle.ledger.specs.Choice.{both}
-use Rattle.ledger.specs.Tally.{allOf}
-use Rattle.octets.specs.Numbers.{be32At, be32}
-use Rattle.octets.specs.Runs.{sameBytes}
+-- 'Measured examples': the cases marked *, as one list. Each is a call on a table, with all that it must come to: the
+-- refusal number, the token, every byte written, the table after it. The calls that lead from a fresh table to those
+-- tables are held to the same.
+use Prim.Native.Nat.{ℕ}
+use mathlib.Core.Bool.{true, false}
+use mathlib.Core.List.{List, [], _∷_, _++_, map}
+use lib.ListN.{replicate}
+use Rattle.octets.specs.Numbers.{be32}
 use Rattle.octets.specs.Blocks.{flat, pad}
-use Rattle.paper.specs.Base.{Table, fresh}
+use Rattle.paper.specs.Base.{closed, Table, fresh}
 use Rattle.paper.specs.RecordsOut.{allBytes}
 use Rattle.paper.specs.Refusals.{Outcome}
-use Rattle.paper.specs.ErrorCodes.{badAddr, badPrim, pending}
 use Rattle.paper.specs.Step.{step}
+use Rattle.paper.specs.declared.State.the-variants.{Unattached, Unbound, Idle, OutconPending, InconPending}
+use Rattle.paper.specs.declared.Stream.{Stream}
+use Rattle.paper.specs.declared.Ppa.{Ppa}
 
--- ---- records in
+-- P and C, in and out: stream 0, length L, 96 bytes of block, zero behind the content
+abbrev pub P : ℕ → List ℕ → List ℕ
+P l content = (80 ∷ 0 ∷ l ∷ []) ++ pad content
 
+abbrev pub C : ℕ → List ℕ → List ℕ
+C l content = (67 ∷ 0 ∷ l ∷ []) ++ pad content
+
+-- the PPA's MAC, the address of stream 0 once bound, and the peer's
 abbrev pub mac : List ℕ
 mac = 2 ∷ 0 ∷ 0 ∷ 0 ∷ 0 ∷ 1 ∷ []
+
+abbrev pub own : List ℕ
+own = mac ++ (0x80 ∷ [])
+
+abbrev pub peer : List ℕ
+peer = 2 ∷ 0 ∷ 0 ∷ 0 ∷ 0 ∷ 2 ∷ 0x84 ∷ []
+
+-- ---- records in
 
 -- G 00000001 020000000001
 abbrev pub addPpa : List ℕ
@@ -29,124 +42,151 @@ addPpa = 71 ∷ be32 1 ++ mac
 abbrev pub openStream : List ℕ
 openStream = 79 ∷ []
 
--- P, to stream 0, with an L and a content
-abbrev pub sized : ℕ → List ℕ → List ℕ
-sized l content = (80 ∷ 0 ∷ l ∷ []) ++ pad content
-
--- P, to stream 0, of these fields
-abbrev pub fields : List ℕ → List ℕ
-fields ws = sized (length (flat ws)) (flat ws)
+-- I 00000001 02000000000180 02000000000284
+abbrev pub callArrives : List ℕ
+callArrives = 73 ∷ be32 1 ++ own ++ peer
 
 abbrev pub infoReq : List ℕ
-infoReq = fields (0x00 ∷ [])
+infoReq = P 4 (flat (0x00 ∷ []))
 
 abbrev pub attachReq : List ℕ
-attachReq = fields (0x0b ∷ 1 ∷ [])
+attachReq = P 8 (flat (0x0b ∷ 1 ∷ []))
 
 -- mode 1, conn_mgmt 0
 abbrev pub bindReq : ℕ → ℕ → List ℕ
-bindReq sap most = fields (0x01 ∷ sap ∷ most ∷ 0x00010000 ∷ 0 ∷ [])
+bindReq sap most = P 20 (flat (0x01 ∷ sap ∷ most ∷ 0x00010000 ∷ 0 ∷ []))
 
--- to 020000000002, SAP 0x84
-abbrev pub called : List ℕ
-called = 2 ∷ 0 ∷ 0 ∷ 0 ∷ 0 ∷ 2 ∷ 0x84 ∷ []
-
--- CONNECT_REQ with L 31, the address behind the fixed fields
+-- the address stands at 24
 abbrev pub connectReq : ℕ → List ℕ
-connectReq offset = sized 31 (flat (0x0d ∷ 7 ∷ offset ∷ 0 ∷ 0 ∷ 0 ∷ []) ++ called)
+connectReq offset = P 31 (flat (0x0d ∷ 7 ∷ offset ∷ 0 ∷ 0 ∷ 0 ∷ []) ++ peer)
 
--- CONNECT_RES with token 0: on the same stream
+-- token 0: on the same stream
 abbrev pub connectRes : ℕ → List ℕ
-connectRes n = fields (0x0f ∷ n ∷ 0 ∷ 0 ∷ 0 ∷ 0 ∷ [])
+connectRes n = P 24 (flat (0x0f ∷ n ∷ 0 ∷ 0 ∷ 0 ∷ 0 ∷ []))
 
--- I for PPA 1 and SAP 0x80
-abbrev pub callArrives : List ℕ
-callArrives = 73 ∷ be32 1 ++ mac ++ (0x80 ∷ []) ++ called
+-- ---- records out
 
--- ---- what a call must come to
+-- INFO_ACK in order: 1497, 0, address length, 0, 0, state, SAP length, mode, 0, 0, 0, 0, 0x0501, address offset, 2, 6,
+-- broadcast offset, 0; then the address if bound, then six bytes of 0xff.
+abbrev pub infoAckUnattached : List ℕ
+infoAckUnattached =
+    C 82 (flat (0x03 ∷ 1497 ∷ 0 ∷ 0 ∷ 0 ∷ 0 ∷ 0 ∷ 0 ∷ 3 ∷ 0 ∷ 0 ∷ 0 ∷ 0 ∷ 0x0501 ∷ 0 ∷ 2 ∷ 6 ∷ 76 ∷ 0 ∷ []) ++ replicate 6 0xff)
 
-pub data Expected : Type 0 where
-  -- a refusal number
-  refusal : ℕ → Expected
-  -- an ERROR_ACK with this error
-  error : ℕ → Expected
-  -- a message up with this L, and a number at a place of it
-  message : ℕ → ℕ → ℕ → Expected
-  -- these bytes and no others
-  bytes : List ℕ → Expected
+abbrev pub infoAckBound : List ℕ
+infoAckBound =
+    C 89
+    (flat (0x03 ∷ 1497 ∷ 0 ∷ 7 ∷ 0 ∷ 0 ∷ 6 ∷ 0xffffffff ∷ 1 ∷ 0 ∷ 0 ∷ 0 ∷ 0 ∷ 0x0501 ∷ 76 ∷ 2 ∷ 6 ∷ 83 ∷ 0 ∷ []) ++ own ++ replicate 6 0xff)
 
-abbrev pub written : Outcome → List ℕ
-written o = allBytes (o .records)
+-- SAP, address length, offset 24, max_conind, xidtest 0; address
+abbrev pub bindAck : ℕ → List ℕ
+bindAck granted = C 31 (flat (0x04 ∷ 0x80 ∷ 7 ∷ 24 ∷ granted ∷ 0 ∷ []) ++ own)
 
--- of one message: its L, and a number of it
-abbrev pub sizeUp : List ℕ → ℕ
-sizeUp w = getD w 2 0
+-- request code, error (BADADDR 1, BADPRIM 9, PENDING 0x1b), 0
+abbrev pub errorAck : ℕ → ℕ → List ℕ
+errorAck request error = C 16 (flat (0x05 ∷ request ∷ error ∷ 0 ∷ []))
 
-abbrev pub numberUp : List ℕ → ℕ → ℕ
-numberUp w at = be32At w (3 + at)
+abbrev pub okAck : ℕ → List ℕ
+okAck request = C 8 (flat (0x06 ∷ request ∷ []))
 
-abbrev pub isServed : Outcome → Bool
-isServed o = eqb (o .refusal) 0
+abbrev pub connectInd : ℕ → List ℕ
+connectInd n = P 50 (flat (0x0e ∷ n ∷ 7 ∷ 36 ∷ 7 ∷ 43 ∷ 0 ∷ 0 ∷ 0 ∷ []) ++ own ++ peer)
 
-abbrev pub isError : List ℕ → Bool
-isError w = both (eqb (length w) 99) (both (eqb (sizeUp w) 16) (eqb (numberUp w 0) 0x05))
+-- c: stream 0, called
+abbrev pub connect : List ℕ
+connect = 99 ∷ 0 ∷ peer
 
-abbrev pub meets : Outcome → Expected → Bool
-meets o (refusal n) = both (eqb (o .refusal) n) (sameBytes (written o) [])
-meets o (error e) = both (isServed o) (both (isError (written o)) (eqb (numberUp (written o) 8) e))
-meets o (message l at n) =
-    both (isServed o) (both (eqb (length (written o)) 99) (both (eqb (sizeUp (written o)) l) (eqb (numberUp (written o) at) n)))
-meets o (bytes w) = both (isServed o) (sameBytes (written o) w)
+-- ---- tables: PPA 1 alone, and of the streams at most stream 0 open
 
--- ---- the cases
+abbrev pub ppa : Ppa
+ppa = record { number = record { 0 = 1 }; mac = mac }
 
-pub record Example : Type 0 where
-  pub before : List (List ℕ)
-  pub call : List ℕ
+abbrev pub noneOpened : Table
+noneOpened = record { remembers = false; counter = 1; ppas = ppa ∷ []; slots = replicate 16 closed }
+
+-- the counter, how stream 0 stands, its open indications
+abbrev pub streamZero : ℕ → Stream → List ℕ → Table
+streamZero counter s waiting =
+    record { remembers = true; counter = counter; ppas = ppa ∷ []; slots = record { isOpen = true; stream = s; waiting = waiting } ∷ replicate 15 closed }
+
+abbrev pub unattached : Table
+unattached = streamZero 1 (record { state = Unattached; mode = 0; sap = 0; ppa = record { 0 = 0 }; granted = 0 }) []
+
+abbrev pub attached : Table
+attached = streamZero 1 (record { state = Unbound; mode = 0; sap = 0; ppa = record { 0 = 1 }; granted = 0 }) []
+
+abbrev pub bound : ℕ → Table
+bound granted = streamZero 1 (record { state = Idle; mode = 1; sap = 0x80; ppa = record { 0 = 1 }; granted = granted }) []
+
+abbrev pub connecting : Table
+connecting = streamZero 1 (record { state = OutconPending; mode = 1; sap = 0x80; ppa = record { 0 = 1 }; granted = 2 }) []
+
+abbrev pub ringing : ℕ → List ℕ → Table
+ringing counter waiting = streamZero counter (record { state = InconPending; mode = 1; sap = 0x80; ppa = record { 0 = 1 }; granted = 2 }) waiting
+
+-- ---- calls, and what they come to
+
+-- an `Outcome` as its caller sees it: its records as bytes
+pub record Seen : Type 0 where
+  pub refusal : ℕ
+  pub token : ℕ
+  pub bytes : List ℕ
+  pub table : Table
+
+abbrev pub seen : Outcome → Seen
+seen o = record { refusal = o .refusal; token = o .opened; bytes = allBytes (o .records); table = o .table }
+
+abbrev pub refuses : ℕ → Table → Seen
+refuses n t = record { refusal = n; token = 0; bytes = []; table = t }
+
+abbrev pub opens : ℕ → Table → Seen
+opens token t = record { refusal = 0; token = token; bytes = []; table = t }
+
+abbrev pub writes : List ℕ → Table → Seen
+writes bytes t = record { refusal = 0; token = 0; bytes = bytes; table = t }
+
+pub record Case : Type 0 where
+  pub before : Table
+  pub lent : List ℕ
   pub room : ℕ
-  pub expected : Expected
+  pub due : Seen
 
--- the calls that lead up to a case are all served, none with an ERROR_ACK, and then the case holds
-abbrev pub holdsFrom : Table → List (List ℕ) → Example → Bool
-holdsFrom t [] e = meets (step t (e .call) (e .room)) (e .expected)
-holdsFrom t (r ∷ rs) e =
-    both (isServed (step t r 128)) (both (not (isError (written (step t r 128)))) (holdsFrom (step t r 128 .table) rs e))
+abbrev pub dueOf : Case → Seen
+dueOf x = x .due
 
-abbrev pub holds : Example → Bool
-holds e = holdsFrom fresh (e .before) e
+abbrev pub cameOf : Case → Seen
+cameOf x = seen (step (x .before) (x .lent) (x .room))
 
--- up to an open stream, one attached, one bound to 0x80
-abbrev pub opened : List (List ℕ)
-opened = addPpa ∷ openStream ∷ []
-
-abbrev pub attached : List (List ℕ)
-attached = opened ++ (attachReq ∷ [])
-
-abbrev pub boundTo80 : List (List ℕ)
-boundTo80 = attached ++ (bindReq 0x80 2 ∷ [])
-
-abbrev pub starred : List Example
-starred =
-    -- INFO_REQ unattached: state field 0, L 82. Bound to 0x80: L 89.
-    record { before = opened; call = infoReq; room = 128; expected = message 82 24 0 }
-    ∷ record { before = boundTo80; call = infoReq; room = 128; expected = message 89 24 6 }
-    -- SAP 0x81, 0x5ff: BADADDR.
-    ∷ record { before = attached; call = bindReq 0x81 2; room = 128; expected = error badAddr }
-    ∷ record { before = attached; call = bindReq 0x5ff 2; room = 128; expected = error badAddr }
-    -- ATTACH with L 7: BADPRIM. L 3: refusal 4. L 97: 5. Room 127: 1.
-    ∷ record { before = opened; call = sized 7 (be32 0x0b); room = 128; expected = error badPrim }
-    ∷ record { before = opened; call = sized 3 []; room = 128; expected = refusal 4 }
-    ∷ record { before = opened; call = sized 97 []; room = 128; expected = refusal 5 }
-    ∷ record { before = opened; call = infoReq; room = 127; expected = refusal 1 }
-    -- CONNECT_REQ, L 31: offset 24 is served, offset 25 BADADDR, offset 4,294,967,295 BADADDR.
-    ∷ record { before = boundTo80; call = connectReq 24; room = 128; expected = bytes (99 ∷ 0 ∷ called) }
-    ∷ record { before = boundTo80; call = connectReq 25; room = 128; expected = error badAddr }
-    ∷ record { before = boundTo80; call = connectReq (2 ^ 32 - 1); room = 128; expected = error badAddr }
-    -- max_conind 9 grants 8.
-    ∷ record { before = attached; call = bindReq 0x80 9; room = 128; expected = message 31 16 8 }
-    -- Two open, accept on the same stream: PENDING.
-    ∷ record { before = boundTo80 ++ (callArrives ∷ callArrives ∷ []); call = connectRes 1; room = 128; expected = error pending }
+-- The calls that lead up to the cases, each on the table that the one before has left: those of the replay example, and
+-- a second I.
+abbrev pub leadUp : List Case
+leadUp =
+    record { before = fresh; lent = addPpa; room = 128; due = writes [] noneOpened }
+    ∷ record { before = noneOpened; lent = openStream; room = 128; due = opens 1 unattached }
+    ∷ record { before = unattached; lent = attachReq; room = 128; due = writes (okAck 0x0b) attached }
+    ∷ record { before = attached; lent = bindReq 0x80 2; room = 128; due = writes (bindAck 2) (bound 2) }
+    ∷ record { before = bound 2; lent = callArrives; room = 128; due = writes (connectInd 1) (ringing 2 (1 ∷ [])) }
+    ∷ record { before = ringing 2 (1 ∷ []); lent = callArrives; room = 128; due = writes (connectInd 2) (ringing 3 (1 ∷ 2 ∷ [])) }
     ∷ []
 
-unfoldable pub allHold : Bool
-allHold = allOf holds starred
+abbrev pub starred : List Case
+starred =
+    -- INFO_REQ unattached: state field 0, L 82. Bound to 0x80: L 89.
+    record { before = unattached; lent = infoReq; room = 128; due = writes infoAckUnattached unattached }
+    ∷ record { before = bound 2; lent = infoReq; room = 128; due = writes infoAckBound (bound 2) }
+    -- SAP 0x81, 0x5ff: BADADDR.
+    ∷ record { before = attached; lent = bindReq 0x81 2; room = 128; due = writes (errorAck 0x01 1) attached }
+    ∷ record { before = attached; lent = bindReq 0x5ff 2; room = 128; due = writes (errorAck 0x01 1) attached }
+    -- ATTACH with L 7: BADPRIM. L 3: refusal 4. L 97: 5. Room 127: 1.
+    ∷ record { before = unattached; lent = P 7 (be32 0x0b); room = 128; due = writes (errorAck 0x0b 9) unattached }
+    ∷ record { before = unattached; lent = P 3 []; room = 128; due = refuses 4 unattached }
+    ∷ record { before = unattached; lent = P 97 []; room = 128; due = refuses 5 unattached }
+    ∷ record { before = unattached; lent = infoReq; room = 127; due = refuses 1 unattached }
+    -- CONNECT_REQ, L 31: offset 24 is served, offset 25 BADADDR, offset 4,294,967,295 BADADDR.
+    ∷ record { before = bound 2; lent = connectReq 24; room = 128; due = writes connect connecting }
+    ∷ record { before = bound 2; lent = connectReq 25; room = 128; due = writes (errorAck 0x0d 1) (bound 2) }
+    ∷ record { before = bound 2; lent = connectReq 4294967295; room = 128; due = writes (errorAck 0x0d 1) (bound 2) }
+    -- max_conind 9 grants 8.
+    ∷ record { before = attached; lent = bindReq 0x80 9; room = 128; due = writes (bindAck 8) (bound 8) }
+    -- Two open, accept on the same stream: PENDING.
+    ∷ record { before = ringing 3 (1 ∷ 2 ∷ []); lent = connectRes 1; room = 128; due = writes (errorAck 0x0f 0x1b) (ringing 3 (1 ∷ 2 ∷ [])) }
+    ∷ []

@@ -1,4 +1,4 @@
--- 'Messages', the ones up: the fields after the code, then what stands behind them.
+-- 'Messages', the ones up: the fields after the code, then what stands behind them, and the sizes.
 use Prim.Native.Nat.{ℕ, _+_, _-_, _/_, _%_, _^_}
 use mathlib.Core.Bool.{Bool, true, false}
 use mathlib.Core.List.{List, [], _∷_, _++_}
@@ -60,6 +60,33 @@ fieldsOf ResetCon = 0x1a ∷ []
 -- the L bytes of a message up
 unfoldable pub contentOf : Reply → List ℕ → List ℕ
 contentOf reply tail = flat (fieldsOf reply) ++ tail
+
+-- The sizes. CONNECT_IND's and CONNECT_CON's count the addresses behind the fields; INFO_ACK's does not, nor does
+-- BIND_ACK's: '24 +'.
+abbrev pub replySize : Reply → ℕ
+replySize (InfoAck s) = 76
+replySize (BindAck sap granted) = 24
+replySize (ErrorAck code error) = 16
+replySize (OkAck code) = 8
+replySize (ConnectInd n) = 50
+replySize ConnectCon = 31
+replySize (TokenAck k) = 8
+replySize (DisconnectInd reason n) = 16
+replySize (ResetInd reason) = 12
+replySize ResetCon = 4
+
+-- how many bytes of address a size counts: called and calling, 7 each; the address
+abbrev pub addressBytes : Reply → ℕ
+addressBytes (InfoAck s) = 0
+addressBytes (BindAck sap granted) = 0
+addressBytes (ErrorAck code error) = 0
+addressBytes (OkAck code) = 0
+addressBytes (ConnectInd n) = 7 + 7
+addressBytes ConnectCon = 7
+addressBytes (TokenAck k) = 0
+addressBytes (DisconnectInd reason n) = 0
+addressBytes (ResetInd reason) = 0
+addressBytes ResetCon = 0
 
 -- Codes 0x03 to 0x06 and 0x12 go up as C, the other replies as P.
 abbrev pub goesAsC : Reply → Bool

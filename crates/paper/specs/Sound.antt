@@ -1,4 +1,5 @@
--- 'Refusal numbers': what a sound table is, clause by clause.
+-- 'Refusal numbers': what a sound table is, clause by clause. What is marked as decided is not said by the paper's
+-- sentence on sound tables, but taken so in docs/DECISIONS.md, 5.
 use Prim.Native.Nat.{ℕ}
 use mathlib.Core.Bool.{Bool, true, false, not}
 use mathlib.Core.List.{List, [], _∷_}
@@ -31,9 +32,9 @@ holdsNothing x =
 -- an open one is in a state with a row below (`State` has no others),
 abbrev pub openTests : List ℕ → Slot → List Bool
 openTests ppas x =
-    -- attached to a PPA of the table except in 0,
+    -- attached to a PPA of the table except in 0 (decided: in 0 it has no PPA number),
     pick (isIn 0 (x .stream)) (eqb (x .stream .ppa .0) 0) (has (x .stream .ppa .0) ppas)
-    -- and bound as BIND allows from 6 on,
+    -- and bound as BIND allows from 6 on (decided: below 6 it holds nothing of a bind),
     ∷ pick (isBound (x .stream)) (asBindAllows (x .stream)) (every (unbound (x .stream)))
     -- in mode 1 above 6;
     ∷ asks (ltb 6 (number (x .stream))) (eqb (x .stream .mode) 1)
@@ -63,6 +64,7 @@ remembersOpenings t = either (t .remembers) (allOf (λ (x : Slot). not (x .isOpe
 
 abbrev pub soundTests : Table → List Bool
 soundTests t =
+    -- at most 8 PPAs (decided to be a clause: a sentence of 'What the base serves')
     leb (length (t .ppas)) 8
     -- PPA numbers differ
     ∷ allOf (λ (p : ℕ). leb (occ p (ppaNumbers t)) 1) (ppaNumbers t)

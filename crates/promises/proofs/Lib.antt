@@ -19,4 +19,5 @@ pub mod Whole
 pub mod Agreement
 pub mod Harness
 pub mod Endings
+pub mod Doors
 pub mod Named

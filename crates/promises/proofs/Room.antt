@@ -16,7 +16,8 @@ use Rattle.paper.specs.Base.{isIn, isBound, Table, slot, stream, waiting, token
 use Rattle.paper.specs.Messages.{codeIn}
 use Rattle.paper.specs.RecordsIn.{inputOf, addressIn, calledIn, callingIn}
 use Rattle.paper.specs.RecordsOut.{Record, up, flushIf, inOrder, bytesOf, allBytes}
-use Rattle.paper.specs.Replies.{sapBytes, addressOf, infoOf, infoTail, fieldsOf, contentOf}
+use Rattle.paper.proofs.Sizes.{info-length}
+use Rattle.paper.specs.Replies.{sapBytes, addressOf, infoTail, fieldsOf, contentOf}
 use Rattle.paper.specs.Refusals.{Outcome, refused}
 use Rattle.paper.specs.Rows.{ordersOf, flushes, repliesTo, performed}
 use Rattle.paper.specs.Events.{eventRow, peerAccepted, peerGone, callWithdrawn, peerReset, resetConfirmed, rings, heardBy, callArrives}
@@ -92,10 +93,6 @@ module _ (t : Table) (k : Sound t) where
   unfolding infoTail
   info-short s = omega (arith, length-append (pick (isBound s) (addressOf (macOf t (s .ppa)) (s .sap)) []) (replicate 6 0xff), bound-short s)
 
-  pub info-size : (s : Stream) → length (infoOf s) ≡ 18
-  unfolding infoOf
-  info-size s = picked (λ (l : List ℕ). length l ≡ 18) (isBound s) _ _ (λ e. refl) (λ e. refl)
-
   orders-short : (i : ℕ) (m : List ℕ) (r : Row) → size (ordersOf i m r) ≤ 10
   unfolding ordersOf
   orders-short i m row.Inform = omega arith
@@ -114,7 +111,7 @@ module _ (t : Table) (k : Sound t) where
 
   replies-short : (i code : ℕ) (r : Row) → size (repliesTo t i code r) ≤ 99
   unfolding repliesTo
-  replies-short i code row.Inform = omega (arith, size-up i (reply.InfoAck (stream t i)) (infoTail (macOf t (stream t i .ppa)) (stream t i)) (omega (arith, info-size (stream t i), info-short (stream t i))))
+  replies-short i code row.Inform = omega (arith, size-up i (reply.InfoAck (stream t i)) (infoTail (macOf t (stream t i .ppa)) (stream t i)) (omega (arith, info-length (stream t i), info-short (stream t i))))
   replies-short i code row.TellToken = omega (arith, size-up i (reply.TokenAck (tokenOf i)) [] (omega arith))
   replies-short i code (row.Attach p) = omega (arith, size-up i (reply.OkAck code) [] (omega arith))
   replies-short i code row.Detach = omega (arith, size-up i (reply.OkAck code) [] (omega arith))

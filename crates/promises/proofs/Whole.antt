@@ -16,6 +16,7 @@ use Rattle.paper.specs.declared.Input.{Input}
 use Rattle.ledger.proofs.Tallies.{chosen}
 use Rattle.paper.specs.Base.{isIn, Table, stream, waiting}
 use Rattle.paper.specs.Messages.{codeIn, primitiveOf, sized, readAs, askedBy}
+use Rattle.paper.proofs.Sizes.{info-length}
 use Rattle.paper.specs.RecordsIn.{inputOf, messageIn, calledIn, callingIn}
 use Rattle.paper.specs.Refusals.{Outcome, refused}
 use Rattle.paper.specs.Rows.{ordersOf, flushes, repliesTo, performed}
@@ -40,7 +41,7 @@ use Rattle.paper.specs.declared.Verdict.the-variants.{Serves, Fails}
 use Rattle.paper.specs.declared.Input.the-variants as input
 use Rattle.promises.specs.Soundness.{Sound}
 use Rattle.image.proofs.Joined.{part-length}
-use Rattle.promises.proofs.Room.{part-short, address-short, info-short, info-size}
+use Rattle.promises.proofs.Room.{part-short, address-short, info-short}
 use Rattle.book.specs.Lines.{lineAt, openingLines, linesOf}
 use Rattle.book.proofs.Said.{said}
 use Rattle.book.proofs.ReadBack.{AllSized, starts, told-apart, lines-said}
@@ -184,7 +185,7 @@ module _ (t : Table) (k : Sound t) where
 
   replies-whole : (i code : ℕ) (r : Row) → AllSized (repliesTo t i code r)
   unfolding repliesTo
-  replies-whole i code row.Inform = (omega (arith, info-size t k (stream t i), info-short t k (stream t i)), omega arith)
+  replies-whole i code row.Inform = (omega (arith, info-length (stream t i), info-short t k (stream t i)), omega arith)
   replies-whole i code row.TellToken = (omega arith, omega arith)
   replies-whole i code (row.Attach p) = (omega arith, omega arith)
   replies-whole i code row.Detach = (omega arith, omega arith)

@@ -1,12 +1,13 @@
 -- Histories: calls in any sequence, refused ones included, and what came back. From a history alone, never from a table: the
 -- fates of the connection indications, their counts, those still open, the count granted.
-use Prim.Native.Nat.{ℕ}
+use Prim.Native.Nat.{ℕ, suc}
 use mathlib.Core.Path.{_≡_}
-use mathlib.Core.Bool.{true}
+use mathlib.Core.Bool.{Bool, true, not}
 use mathlib.Core.List.{List, [], _∷_, _++_}
 use lib.ListN.{getD}
-use lib.Dec.{ltb}
-use Rattle.ledger.specs.Tally.{allOf}
+use lib.Dec.{eqb, ltb}
+use Rattle.ledger.specs.Choice.{both, either}
+use Rattle.ledger.specs.Tally.{oneIf, sumOf, allOf}
 use Rattle.paper.specs.Base.{Table}
 use Rattle.paper.specs.RecordsOut.{allBytes}
 use Rattle.paper.specs.Refusals.{Outcome}
@@ -65,6 +66,27 @@ openBy s h = openOf (newest (fates s h))
 -- the count granted at the bind of its newest opening
 abbrev pub grantedBy : ℕ → List Answered → ℕ
 grantedBy s h = grantBy s (lines h) 0
+
+-- ---- openings and closes, as the caller makes them
+
+-- a served O that opened stream s, and a served X of stream s
+abbrev pub opensStream : ℕ → Answered → Bool
+opensStream s a = both (eqb (getD (a .lent) 0 0) 79) (both (eqb (a .refusal) 0) (eqb (a .opened) (suc s)))
+
+abbrev pub closesStream : ℕ → Answered → Bool
+closesStream s a = both (eqb (getD (a .lent) 0 0) 88) (both (eqb (a .refusal) 0) (eqb (getD (a .lent) 1 0) s))
+
+-- how often stream s was opened
+abbrev pub opensOf : ℕ → List Answered → ℕ
+opensOf s h = sumOf (λ (a : Answered). oneIf (opensStream s a)) h
+
+-- whether it is open after a history, where it was open before or not
+abbrev pub openAfter : ℕ → Answered → Bool → Bool
+openAfter s a b = either (opensStream s a) (both (not (closesStream s a)) b)
+
+unfoldable pub isOpenBy : ℕ → List Answered → Bool → Bool
+isOpenBy s [] b = b
+isOpenBy s (a ∷ h) b = isOpenBy s h (openAfter s a b)
 
 -- ---- counts of opening j of stream s, the newest 0: each by its own rule from the records
 

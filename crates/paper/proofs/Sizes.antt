@@ -1,0 +1,38 @@
+-- A reply has the size that the paper's table gives: each field takes four bytes, and the addresses that a size counts
+-- make up the rest.
+use Prim.Native.Nat.{ℕ, _+_, _*_}
+use native.Mathlib.Omega.{arith}
+use mathlib.Core.Path.{_≡_, refl}
+use mathlib.Core.List.{List}
+use lib.ListN.{length, length-append}
+use Rattle.ledger.proofs.Tallies.{picked}
+use Rattle.octets.specs.Blocks.{flat}
+use Rattle.octets.proofs.Laws.{flat-length}
+use Rattle.paper.specs.Base.{isBound}
+use Rattle.paper.specs.Replies.{infoOf, fieldsOf, contentOf, replySize, addressBytes}
+use Rattle.paper.specs.declared.Stream.{Stream}
+use Rattle.paper.specs.declared.Reply.{Reply}
+use Rattle.paper.specs.declared.Reply.the-variants.{InfoAck, BindAck, ErrorAck, OkAck, ConnectInd, ConnectCon, TokenAck, DisconnectInd, ResetInd, ResetCon}
+
+-- unbound and bound, INFO_ACK has its 18 fields
+pub info-length : (s : Stream) → length (infoOf s) ≡ 18
+unfolding infoOf
+info-length s = picked (λ (l : List ℕ). length l ≡ 18) (isBound s) _ _ (λ e. refl) (λ e. refl)
+
+-- the fields, and the addresses that the size counts
+fields-size : (r : Reply) → length (fieldsOf r) * 4 + addressBytes r ≡ replySize r
+fields-size (InfoAck s) = omega (arith, info-length s)
+fields-size (BindAck sap granted) = refl
+fields-size (ErrorAck code error) = refl
+fields-size (OkAck code) = refl
+fields-size (ConnectInd n) = refl
+fields-size ConnectCon = refl
+fields-size (TokenAck k) = refl
+fields-size (DisconnectInd reason n) = refl
+fields-size (ResetInd reason) = refl
+fields-size ResetCon = refl
+
+-- L is the size and the bytes beyond it: what stands behind the fields, less the addresses that the size counts
+pub reply-size : (r : Reply) (tail : List ℕ) → length (contentOf r tail) + addressBytes r ≡ replySize r + length tail
+unfolding contentOf
+reply-size r tail = omega (arith, length-append (flat (fieldsOf r)) tail, flat-length (fieldsOf r), fields-size r)
