@@ -95,12 +95,12 @@ one-call t k c = subst (IsStep t c) (sym (call-is-step t k (c .bytes) (c .room))
 kept : (t : Table) → Sound t → (c : Lending) → Sound (outcome t c .table)
 kept t k c = good t k (c .bytes) (are-bytes (asCall c)) (length (c .room)) .kept
 
-images-are-the-run : (t : Table) → Sound t → (cs : List Lending) → imageAfter (imageOf t) cs ≡ imageOf (run t (map asCall cs))
+pub images-are-the-run : (t : Table) → Sound t → (cs : List Lending) → imageAfter (imageOf t) cs ≡ imageOf (run t (map asCall cs))
 unfolding imageAfter run
 images-are-the-run t k [] = refl
 images-are-the-run t k (c ∷ cs) = ap (λ (img : List ℕ). imageAfter img cs) (one-call t k c .image) ∙ images-are-the-run (outcome t c .table) (kept t k c) cs
 
-heard-is-history : (t : Table) → Sound t → (cs : List Lending) → heard (imageOf t) cs ≡ history t (map asCall cs)
+pub heard-is-history : (t : Table) → Sound t → (cs : List Lending) → heard (imageOf t) cs ≡ history t (map asCall cs)
 unfolding heard history
 heard-is-history t k [] = refl
 heard-is-history t k (c ∷ cs) =

@@ -1,0 +1,48 @@
+-- Demand 2's two sentences on answers, of the call for C: on a sound image the errors that the bytes written tell are those of the
+-- records of `step`, and on any other nothing is written.
+use Prim.Native.Nat.{ℕ, _<_}
+use mathlib.Core.Path.{_≡_, refl, ap, subst, _∙_}
+use mathlib.Core.Bool.{Bool, true, false, not}
+use mathlib.Core.List.{List}
+use lib.ListN.{length}
+use native.Mathlib.Omega.{arith}
+use Rattle.ledger.specs.Choice.{either}
+use Rattle.ledger.specs.Tally.{has}
+use Rattle.ledger.proofs.Tallies.{both-of}
+use Rattle.paper.specs.Base.{stream}
+use Rattle.paper.specs.ErrorCodes.{outState}
+use Rattle.paper.specs.Rows.{hasRow}
+use Rattle.paper.specs.declared.Request.{Request}
+use Rattle.image.specs.Layout.{tableOf, tidy, soundImage}
+use Rattle.image.proofs.ImageBack.{image-back}
+use Rattle.outcomes.specs.Leaving.{Left}
+use Rattle.promises.specs.Answers.{errorsIn, errorsTold, Complete, offersBusy}
+use Rattle.promises.specs.Harness.{Lending, leftOn, cameBack}
+use Rattle.promises.specs.History.{Answered}
+use Rattle.promises.proofs.Demand1.{unsound-gives-sixteen}
+use Rattle.promises.proofs.ErrorAck.{error-leaves-image}
+use Rattle.promises.proofs.Harness.{outcome, IsStep, one-call}
+use Rattle.promises.proofs.Images.{lent-sound}
+use Rattle.promises.proofs.OutState.{gets-outState}
+use Rattle.promises.proofs.Tested.{sound-test}
+use Rattle.promises.proofs.Whole.{told-step}
+
+errors-of-the-call : (img : List ℕ) (c : Lending) → soundImage img ≡ true → errorsTold (cameBack c (leftOn img c) .written) ≡ errorsIn (outcome (tableOf img) c .records)
+unfolding soundImage
+errors-of-the-call img c e =
+    let i : IsStep (tableOf img) c (leftOn img c) = subst (λ (l : List ℕ). IsStep (tableOf img) c (leftOn l c)) (image-back img (both-of (tidy img) _ e .0)) (one-call (tableOf img) (lent-sound img e) c) in
+    ap (λ (a : Answered). errorsTold (a .written)) (i .answer) ∙ told-step (tableOf img) (lent-sound img e) (c .bytes) (length (c .room))
+
+-- "A complete message that we serve gets DL_OUTSTATE exactly if the paper's state table has no row for it, or if an
+-- accept, with no earlier error in the paper's order, offers another stream that isn't idle."
+pub call-gets-outState : (img : List ℕ) (c : Lending) (i : ℕ) (q : Request) → soundImage img ≡ true → Complete (tableOf img) (c .bytes) (length (c .room)) i q
+    → has outState (errorsTold (cameBack c (leftOn img c) .written)) ≡ either (not (hasRow (stream (tableOf img) i) q)) (offersBusy (tableOf img) i q)
+call-gets-outState img c i q e m = ap (has outState) (errors-of-the-call img c e) ∙ gets-outState (tableOf img) (sound-test (tableOf img) (lent-sound img e)) (c .bytes) (length (c .room)) i q m
+
+-- "A message answered with DL_ERROR_ACK changes no stream", nor any byte of the image, whatever image is lent.
+pub call-error-leaves-image : (img : List ℕ) (c : Lending) → 0 < length (errorsTold (cameBack c (leftOn img c) .written)) → leftOn img c .image ≡ img
+call-error-leaves-image img c h = go (soundImage img) refl
+  where
+    go : (b : Bool) → soundImage img ≡ b → leftOn img c .image ≡ img
+    go true e = error-leaves-image img (c .bytes) (c .room) (omega (arith, h, ap length (errors-of-the-call img c e)))
+    go false e = ap (λ (l : Left). l .image) (unsound-gives-sixteen img (c .bytes) (c .room) e)
