@@ -138,7 +138,7 @@ def shut_names():
     for crate in BELOW[2:]:
         for path in sorted((TOP / "crates" / crate / "specs").glob("*.antt")):
             names = re.findall(r"^unfoldable pub (\S+)", path.read_text(), re.M)
-            if names and path.stem != "Examples":
+            if names:
                 yield crate, path.stem, names
 
 

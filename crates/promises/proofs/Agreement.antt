@@ -2,7 +2,7 @@
 use Prim.Native.Nat.{ℕ, _≤_, _<_}
 use mathlib.Core.Path.{_≡_, refl, sym, ap, subst, _∙_}
 use mathlib.Core.Bool.{true, false≢true}
-use mathlib.Core.List.{List, [], _∷_, _++_, map, append-assoc, append-nil}
+use mathlib.Core.List.{List, [], _∷_, map}
 use lib.Dec.{ltb}
 use native.Mathlib.Omega.{arith}
 use borrow.Author.Tests.{ltb-true}
@@ -94,17 +94,3 @@ fair-history s cs =
     let r : (fairs s (lines (history fresh cs)) (waiting fresh s) ≡ true) × (rooteds s (lines (history fresh cs)) 0 ≡ true)
     = fair-run s cs fresh fresh-sound 0 (λ e. absurd (false≢true (sym (ap (λ (x : Slot). x .isOpen) (fresh-at 16 s)) ∙ e))) in
     (ap (fairs s (lines (history fresh cs))) (ap (λ (x : Slot). x .waiting) (sym (fresh-at 16 s))) ∙ r .0, r .1)
-
--- ---- one call more
-
-pub run-more : (t : Table) (cs : List Call) (c : Call) → run t (cs ++ (c ∷ [])) ≡ step (run t cs) (c .bytes) (c .room) .table
-unfolding run
-run-more t [] c = refl
-run-more t (b ∷ cs) c = run-more (step t (b .bytes) (b .room) .table) cs c
-
-pub lines-more : (t : Table) (cs : List Call) (c : Call) → lines (history t (cs ++ (c ∷ []))) ≡ lines (history t cs) ++ linesFrom (run t cs) c
-unfolding run history lines
-lines-more t [] c = append-nil (linesFrom t c)
-lines-more t (b ∷ cs) c =
-    let u : Table = step t (b .bytes) (b .room) .table in
-    ap (λ (ys : List Line). linesFrom t b ++ ys) (lines-more u cs c) ∙ sym (append-assoc (linesFrom t b) (lines (history u cs)) (linesFrom (run u cs) c))

@@ -1,13 +1,12 @@
 -- What a call writes goes into 128 bytes.
-use Prim.Native.Nat.{ℕ, zero, suc, _+_, _*_, _-_, _≤_}
+use Prim.Native.Nat.{ℕ, _+_, _*_, _-_, _≤_}
 use mathlib.Core.Path.{_≡_, refl, ap, _∙_}
 use mathlib.Core.Bool.{Bool, true, false, not}
 use mathlib.Core.List.{List, [], _∷_, _++_, map}
-use lib.ListN.{length, take, drop, replicate, length-append, length-replicate}
-use lib.Dec.{eqb, ltb}
+use lib.ListN.{length, take, replicate, length-append, length-replicate}
+use lib.Dec.{ltb}
 use native.Mathlib.Omega.{arith}
 use Rattle.ledger.specs.Choice.{pick}
-use Rattle.ledger.specs.Tally.{firstOf}
 use Rattle.ledger.proofs.Tallies.{chosen, picked}
 use Rattle.octets.specs.Runs.{part}
 use Rattle.octets.specs.Blocks.{flat}
@@ -26,7 +25,6 @@ use Rattle.paper.specs.Correlations.{nextNumber}
 use Rattle.paper.specs.Step.{answered, ofOpen, message, serve, step}
 use Rattle.paper.specs.Saps.{listener}
 use Rattle.paper.specs.ErrorCodes.{errorOf}
-use Rattle.paper.specs.declared.Ppa.{Ppa}
 use Rattle.paper.specs.declared.PpaNumber.{PpaNumber}
 use Rattle.paper.specs.declared.Stream.{Stream}
 use Rattle.paper.specs.declared.Row.{Row}
@@ -38,7 +36,9 @@ use Rattle.paper.specs.declared.Verdict.the-variants.{Serves, Fails}
 use Rattle.paper.specs.declared.Input.{Input}
 use Rattle.paper.specs.declared.Input.the-variants as input
 use Rattle.promises.specs.Soundness.{Sound}
+use Rattle.outcomes.proofs.Laws.{part-most, mac-length}
 use Rattle.promises.proofs.Changes.{eight}
+use Rattle.promises.proofs.Lent.{shaped}
 
 -- ---- how many bytes records take
 abbrev size : List Record → ℕ
@@ -66,25 +66,13 @@ size-up i r tail h =
     let c : length (contentOf r tail) ≡ length (fieldsOf r) * 4 + length tail = length-append (flat (fieldsOf r)) tail ∙ ap (λ (n : ℕ). n + length tail) (flat-length (fieldsOf r)) in
     omega (arith, size-one (up i r tail), length-append (contentOf r tail) (replicate (96 - length (contentOf r tail)) 0), length-replicate {A = ℕ} (96 - length (contentOf r tail)) 0)
 
-pub part-short : (l : List ℕ) (a n : ℕ) → length (part l a n) ≤ n
-part-short l a n = take-short n (drop a l)
-  where
-    take-short : (n : ℕ) (l : List ℕ) → length (take n l) ≤ n
-    take-short zero l = omega arith
-    take-short (suc n) [] = omega arith
-    take-short (suc n) (x ∷ l) = omega (arith, take-short n l)
-
 sap-short : (sap : ℕ) → length (sapBytes sap) ≤ 2
 sap-short sap = picked (λ (l : List ℕ). length l ≤ 2) (ltb sap 256) _ _ (λ e. omega arith) (λ e. omega arith)
 
 module _ (t : Table) (k : Sound t) where
-  mac-six : (p : PpaNumber) → length (macOf t p) ≡ 6
-  unfolding macOf
-  mac-six p = k .macs (firstOf (λ (q : Ppa). eqb (q .number .0) (p .0)) (t .ppas)) .0
-
   pub address-short : (p : PpaNumber) (sap : ℕ) → length (addressOf (macOf t p) sap) ≤ 8
   unfolding addressOf
-  address-short p sap = omega (arith, length-append (macOf t p) (sapBytes sap), mac-six p, sap-short sap)
+  address-short p sap = omega (arith, length-append (macOf t p) (sapBytes sap), mac-length t (shaped t k) p, sap-short sap)
 
   bound-short : (s : Stream) → length (pick (isBound s) (addressOf (macOf t (s .ppa)) (s .sap)) []) ≤ 8
   bound-short s = picked (λ (l : List ℕ). length l ≤ 8) (isBound s) _ _ (λ e. address-short (s .ppa) (s .sap)) (λ e. omega arith)
@@ -101,7 +89,7 @@ module _ (t : Table) (k : Sound t) where
   orders-short i m row.Detach = omega arith
   orders-short i m (row.Bind mode sap granted) = omega arith
   orders-short i m row.Unbind = omega arith
-  orders-short i m (row.Connect at) = omega (arith, length-append (part m at 7) [], part-short m at 7)
+  orders-short i m (row.Connect at) = omega (arith, length-append (part m at 7) [], part-most m at 7)
   orders-short i m (row.AcceptHere n) = omega arith
   orders-short i m (row.AcceptOn n c) = omega arith
   orders-short i m (row.Deny n reason) = omega arith
@@ -156,8 +144,8 @@ module _ (t : Table) (k : Sound t) where
   })
   short-serve r (input.Message i l) = short-open i _ (chosen Short _ _ _ (λ e. none _) (λ e. chosen Short _ _ _ (λ e. none _) (λ e. short-answer i _ _)))
   short-serve r (input.CallArrives p sap) = chosen Short _ _ _ (λ e. none _) (λ e. chosen Short _ _ _ (λ e. none _) (λ e. chosen Short _ _ _ (λ e. none _) (λ e. chosen Short _ _ _ (λ e. none _)
-      (λ e. record { short = omega (arith, size-up (listener t p sap) (reply.ConnectInd (record { 0 = nextNumber t })) (calledIn r ++ callingIn r) (omega (arith, length-append (calledIn r) (callingIn r), part-short r 5 7, part-short r 12 7))) }))))
-  short-serve r (input.PeerAccepted i) = short-open i _ (chosen Short _ _ _ (λ e. record { short = omega (arith, size-up i reply.ConnectCon (addressIn r) (omega (arith, part-short r 2 7))) }) (λ e. none _))
+      (λ e. record { short = omega (arith, size-up (listener t p sap) (reply.ConnectInd (record { 0 = nextNumber t })) (calledIn r ++ callingIn r) (omega (arith, length-append (calledIn r) (callingIn r), part-most r 5 7, part-most r 12 7))) }))))
+  short-serve r (input.PeerAccepted i) = short-open i _ (chosen Short _ _ _ (λ e. record { short = omega (arith, size-up i reply.ConnectCon (addressIn r) (omega (arith, part-most r 2 7))) }) (λ e. none _))
   short-serve r (input.PeerGone i reason) = short-open i _ (chosen Short _ _ _ (λ e. record { short = omega (arith, size-order [] (not (isIn 8 (stream t i))) i (up i (reply.DisconnectInd reason (record { 0 = 0 })) [] ∷ []), size-up i (reply.DisconnectInd reason (record { 0 = 0 })) [] (omega arith)) }) (λ e. none _))
   short-serve r (input.CallWithdrawn i n reason) = short-open i _ (chosen Short _ _ _ (λ e. record { short = omega (arith, size-up i (reply.DisconnectInd reason n) [] (omega arith)) }) (λ e. none _))
   short-serve r (input.PeerReset i reason) = short-open i _ (chosen Short _ _ _ (λ e. record { short = omega (arith, size-order [] true i (up i (reply.ResetInd reason) [] ∷ []), size-up i (reply.ResetInd reason) [] (omega arith)) }) (λ e. none _))

@@ -41,7 +41,8 @@ use Rattle.paper.specs.declared.Verdict.the-variants.{Serves, Fails}
 use Rattle.paper.specs.declared.Input.the-variants as input
 use Rattle.promises.specs.Soundness.{Sound}
 use Rattle.image.proofs.Joined.{part-length}
-use Rattle.promises.proofs.Room.{part-short, address-short, info-short}
+use Rattle.promises.proofs.Room.{address-short, info-short}
+use Rattle.outcomes.proofs.Laws.{part-most}
 use Rattle.book.specs.Lines.{lineAt, openingLines, linesOf}
 use Rattle.book.proofs.Said.{said}
 use Rattle.book.proofs.ReadBack.{AllSized, starts, told-apart, lines-said}
@@ -221,8 +222,8 @@ module _ (t : Table) (k : Sound t) where
   whole-serve r (input.Close i) = whole-open i _ (record { whole = chosen AllSized _ _ _ (λ e. whole-goodbyes i (waiting t i)) (λ e. chosen AllSized _ _ _ (λ e. (refl, omega arith)) (λ e. omega arith)) })
   whole-serve r (input.Message i l) = whole-open i _ (chosen Whole _ _ _ (λ e. none _) (λ e. chosen Whole _ _ _ (λ e. none _) (λ e. whole-answer i _ _ (within-message (messageIn r l) t i))))
   whole-serve r (input.CallArrives p sap) = chosen Whole _ _ _ (λ e. none _) (λ e. chosen Whole _ _ _ (λ e. none _) (λ e. chosen Whole _ _ _ (λ e. none _) (λ e. chosen Whole _ _ _ (λ e. none _)
-      (λ e. record { whole = (omega (arith, length-append (calledIn r) (callingIn r), part-short r 5 7, part-short r 12 7), omega arith) }))))
-  whole-serve r (input.PeerAccepted i) = whole-open i _ (chosen Whole _ _ _ (λ e. record { whole = (omega (arith, part-short r 2 7), omega arith) }) (λ e. none _))
+      (λ e. record { whole = (omega (arith, length-append (calledIn r) (callingIn r), part-most r 5 7, part-most r 12 7), omega arith) }))))
+  whole-serve r (input.PeerAccepted i) = whole-open i _ (chosen Whole _ _ _ (λ e. record { whole = (omega (arith, part-most r 2 7), omega arith) }) (λ e. none _))
   whole-serve r (input.PeerGone i reason) = whole-open i _ (chosen Whole _ _ _ (λ e. record { whole = sized-order [] (not (isIn 8 (stream t i))) i (up i (reply.DisconnectInd reason (record { 0 = 0 })) [] ∷ []) (omega arith) (omega arith, omega arith) }) (λ e. none _))
   whole-serve r (input.CallWithdrawn i n reason) = whole-open i _ (chosen Whole _ _ _ (λ e. record { whole = (omega arith, omega arith) }) (λ e. none _))
   whole-serve r (input.PeerReset i reason) = whole-open i _ (chosen Whole _ _ _ (λ e. record { whole = sized-order [] true i (up i (reply.ResetInd reason) [] ∷ []) (omega arith) (omega arith, omega arith) }) (λ e. none _))
