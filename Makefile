@@ -246,7 +246,7 @@ instructions: target/c/bench
 	c/bench/instructions target/c/bench target/bench
 endif
 
-# each sentence of the rule paper has its definition
+# what each row of docs/PAPER.md names is in the place that the row gives
 paper:
 	python3 tools/paper.py
 

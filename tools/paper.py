@@ -20,10 +20,13 @@ SHORT = {"src": "crates/paper/src/lib"}
 
 # How a line begins that declares a name, by the ending of its file.
 DECLARES = {
-    ".antt": r" *(?:unfoldable |abbrev )*pub (?:record |data )?{name} [:({{]",
+    ".antt": r"(?:unfoldable |abbrev )*pub (?:record |data )?{name} [:({{]",
     ".rt": r'(?:pub )?(?:extern "C" )?(?:fn|struct|enum|const) {name}\b',
-    ".md": r"(?:#+ |\d+\. )?(?:\*\*)?{name}",
+    ".md": r"(?:#+ |\d+\. )?(?:\*\*)?{name}(?:\.\*\*|$)",
 }
+
+# What a name stands for in a folder, where it is not a whole file name or one without its ending.
+ENDINGS = {"captures": (".records", ".text"), "must-fail": (".edit",)}
 
 
 def path_of(place):
@@ -36,6 +39,8 @@ def path_of(place):
 def holds(path, name):
     """Whether a file declares a name, or a folder has a file of that name."""
     if path.is_dir():
+        if path.name in ENDINGS:
+            return all((path / (name + ending)).exists() for ending in ENDINGS[path.name])
         return any(name in (entry.name, entry.stem) for entry in path.iterdir())
     if path.suffix not in DECLARES:
         return False
@@ -76,8 +81,8 @@ def rows():
     lines = (TOP / "docs/PAPER.md").read_text().splitlines()
     rules = {number for number, line in enumerate(lines, 1) if re.fullmatch(r"\|[-|]+\|", line)}
     for number, line in enumerate(lines, 1):
-        if line.startswith("|") and number not in rules and number + 1 not in rules:
-            yield number, [cell.strip() for cell in line[1:].removesuffix("|").split("|")]
+        if line.lstrip().startswith("|") and number not in rules and number + 1 not in rules:
+            yield number, [cell.strip() for cell in line.strip()[1:].removesuffix("|").split("|")]
 
 
 def main():
