@@ -15,7 +15,8 @@ use Rattle.book.specs.Book.{Opening, openOf, newest, posts, leftOpen, tallies, 
 use Rattle.book.proofs.Shades.{shades, fairs, rooteds, openingsIn, open-posts, left-posts, posts-append, tallies-append, grant-append, fairs-append, rooteds-append}
 use Rattle.book.proofs.Counts.{count-posts}
 use Rattle.promises.specs.Soundness.{Bytes, Sound}
-use Rattle.promises.specs.History.{Call, answeredBy, run, history, lines, fates, grantedBy}
+use Rattle.promises.specs.History.{lines, fates, grantedBy}
+use Rattle.promises.proofs.Runs.{Call, answeredBy, run, history}
 use Rattle.promises.proofs.Whole.{read-step}
 use Rattle.promises.proofs.Sights.{Seen}
 use Rattle.promises.proofs.Steps.{good, fresh-sound, fresh-at}

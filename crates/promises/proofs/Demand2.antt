@@ -16,11 +16,11 @@ use Rattle.paper.specs.declared.Request.{Request}
 use Rattle.image.specs.Layout.{tableOf, tidy, soundImage}
 use Rattle.image.proofs.ImageBack.{image-back}
 use Rattle.outcomes.specs.Leaving.{Left}
-use Rattle.promises.specs.Answers.{errorsIn, errorsTold, Complete, offersBusy}
+use Rattle.promises.specs.Answers.{errorsTold, Complete, offersBusy}
+use Rattle.promises.proofs.ErrorAck.{errorsIn, error-leaves-image}
 use Rattle.promises.specs.Harness.{Lending, leftOn, cameBack}
 use Rattle.promises.specs.History.{Answered}
 use Rattle.promises.proofs.Demand1.{unsound-gives-sixteen}
-use Rattle.promises.proofs.ErrorAck.{error-leaves-image}
 use Rattle.promises.proofs.Harness.{outcome, IsStep, one-call}
 use Rattle.promises.proofs.Images.{lent-sound}
 use Rattle.promises.proofs.OutState.{gets-outState}

@@ -24,12 +24,14 @@ use Rattle.paper.specs.declared.Request.the-variants as request
 use Rattle.book.specs.Book.{tallies, countIn, openOf, newest, posts}
 use Rattle.book.proofs.Counts.{sums, none-left}
 use Rattle.book.proofs.Sums.{sum-at, sum-two}
-use Rattle.promises.specs.Answers.{errorsIn, gets, Complete, errorsTold}
-use Rattle.promises.specs.History.{Call, run, history, lines, fates, openBy, grantedBy, counted, indicated, accepted, denied, withdrawn, dropped, leftOpenIn, Answered}
+use Rattle.promises.specs.Answers.{Complete, errorsTold}
+use Rattle.promises.proofs.ErrorAck.{errorsIn}
+use Rattle.promises.proofs.OutState.{gets, answers, answer-tells}
+use Rattle.promises.specs.History.{lines, fates, openBy, grantedBy, counted, indicated, accepted, denied, withdrawn, dropped, leftOpenIn, Answered}
+use Rattle.promises.proofs.Runs.{Call, run, history}
 use Rattle.promises.proofs.Agreement.{agrees, are-bytes}
 use Rattle.promises.proofs.Changes.{quiet, in-nine}
 use Rattle.promises.proofs.Named.{names-accept, names-denial}
-use Rattle.promises.proofs.OutState.{answers, answer-tells}
 use Rattle.promises.proofs.Steps.{good, fresh-sound, Good}
 use Rattle.promises.proofs.Tested.{sound-test}
 use lib.Dec.{eqb}

@@ -41,7 +41,8 @@ use Rattle.paper.specs.declared.State.{State}
 use Rattle.paper.specs.declared.Stream.{Stream}
 use Rattle.paper.specs.declared.Verdict.{Verdict}
 use Rattle.paper.specs.declared.Verdict.the-variants.{Serves, Fails}
-use Rattle.promises.specs.History.{Call, Answered, answeredBy, run, history, lines, fates, openBy, opensStream, opensOf, isOpenBy}
+use Rattle.promises.specs.History.{Answered, lines, fates, openBy, opensStream, opensOf, isOpenBy}
+use Rattle.promises.proofs.Runs.{Call, answeredBy, run, history}
 use Rattle.promises.specs.Harness.{Harness, tableIn, heardIn}
 use Rattle.promises.specs.Soundness.{Sound}
 use Rattle.promises.proofs.Agreement.{linesFrom, are-bytes}

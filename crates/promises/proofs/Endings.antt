@@ -42,7 +42,8 @@ use Rattle.book.proofs.Counts.{ends-counted}
 use Rattle.book.proofs.Said.{lineOf, said}
 use Rattle.book.proofs.Shades.{tallies-append}
 use Rattle.book.proofs.Sums.{sum-at}
-use Rattle.promises.specs.Answers.{errorsIn, errorsTold, Complete}
+use Rattle.promises.specs.Answers.{errorsTold, Complete}
+use Rattle.promises.proofs.ErrorAck.{errorsIn}
 use Rattle.promises.specs.History.{saidBy, lines, openBy, counted, accepted, denied, withdrawn, dropped}
 use Rattle.promises.specs.Harness.{Lending, Harness, tableIn, heardIn, nextIn, andThen}
 use Rattle.promises.specs.Soundness.{Sound}

@@ -11,7 +11,8 @@ use Rattle.ledger.proofs.Tallies.{chosen}
 use Rattle.paper.specs.Base.{isIn, Slot, Table, slot, stream}
 use Rattle.paper.specs.Messages.{codeIn}
 use Rattle.paper.specs.RecordsIn.{inputOf}
-use Rattle.paper.specs.RecordsOut.{Record, up, flushIf, inOrder}
+use Rattle.paper.specs.RecordsOut.{Record, order, flush, up, flushIf, inOrder}
+use Rattle.paper.specs.declared.Reply.{Reply}
 use Rattle.paper.specs.Refusals.{Outcome, refused}
 use Rattle.paper.specs.Rows.{ordersOf, flushes, repliesTo, performed}
 use Rattle.paper.specs.Events.{eventRow, peerAccepted, peerGone, callWithdrawn, peerReset, resetConfirmed, rings, heardBy, callArrives}
@@ -27,7 +28,28 @@ use Rattle.paper.specs.declared.Input.the-variants as input
 use Rattle.image.specs.Layout.{tableOf, imageOf}
 use Rattle.image.proofs.ImageBack.{image-back}
 use Rattle.outcomes.specs.Leaving.{Left, leaving, callOf}
-use Rattle.promises.specs.Answers.{errorsIn}
+
+-- ---- the errors that records tell, by their content
+
+-- the error that a reply tells: an ERROR_ACK its own, any other none
+abbrev pub errorIn : Reply → List ℕ
+errorIn (reply.InfoAck s) = []
+errorIn (reply.BindAck sap granted) = []
+errorIn (reply.ErrorAck code error) = error ∷ []
+errorIn (reply.OkAck code) = []
+errorIn (reply.ConnectInd n) = []
+errorIn reply.ConnectCon = []
+errorIn (reply.TokenAck k) = []
+errorIn (reply.DisconnectInd reason n) = []
+errorIn (reply.ResetInd reason) = []
+errorIn reply.ResetCon = []
+
+-- the errors that a call's records tell
+abbrev pub errorsIn : List Record → List ℕ
+errorsIn [] = []
+errorsIn (order o called ∷ rs) = errorsIn rs
+errorsIn (flush i ∷ rs) = errorsIn rs
+errorsIn (up i r tail ∷ rs) = errorIn r ++ errorsIn rs
 
 -- ---- records that tell no error
 

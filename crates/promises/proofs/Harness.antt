@@ -20,9 +20,11 @@ use Rattle.image.proofs.TableBack.{table-back}
 use Rattle.outcomes.specs.Leaving.{Left, left, refusing, writing, refusalIn, tokenIn, writtenIn, leaving, callOf}
 use Rattle.outcomes.specs.Fresh.{Made, freshOf}
 use Rattle.book.specs.Book.{tallies}
-use Rattle.promises.specs.Answers.{errorsIn, errorsTold}
+use Rattle.promises.specs.Answers.{errorsTold}
+use Rattle.promises.proofs.ErrorAck.{errorsIn}
 use Rattle.promises.specs.Soundness.{Sound}
-use Rattle.promises.specs.History.{Call, Answered, answeredBy, run, history, lines, fates, grantedBy, saidBy}
+use Rattle.promises.specs.History.{Answered, lines, fates, grantedBy, saidBy}
+use Rattle.promises.proofs.Runs.{Call, answeredBy, run, history}
 use Rattle.promises.specs.Harness.{Lending, leftOn, cameBack, imageAfter, heard, Harness, imageIn, tableIn, heardIn, nextIn, andThen}
 use Rattle.promises.proofs.Agreement.{Agrees, agrees, are-bytes, fair-history}
 use Rattle.book.proofs.Shades.{fairs, rooteds}
@@ -55,8 +57,8 @@ pub record IsStep (t : Table) (c : Lending) (l : Left) : Type 0 where
 
 -- what is taken apart of a number
 same-answer : (c : Lending) (l : Left) (refusal opened : ℕ) (written : List ℕ) → refusalIn (l .number) ≡ refusal → tokenIn (l .number) ≡ opened → take (writtenIn (l .number)) (l .room) ≡ written
-    → cameBack c l ≡ record { lent = c .bytes; room = length (c .room); refusal = refusal; opened = opened; written = written }
-same-answer c l refusal opened written a b w i = record { lent = c .bytes; room = length (c .room); refusal = a i; opened = b i; written = w i }
+    → cameBack c l ≡ record { lent = c .bytes; refusal = refusal; opened = opened; written = written }
+same-answer c l refusal opened written a b w i = record { lent = c .bytes; refusal = a i; opened = b i; written = w i }
 
 none-taken : (l : List ℕ) (n : ℕ) → n ≡ 0 → take n l ≡ []
 none-taken l n e = ap (λ (m : ℕ). take m l) e ∙ none l

@@ -21,7 +21,7 @@ use Rattle.paper.specs.declared.DisconnectRequest.{DisconnectRequest}
 use Rattle.paper.specs.declared.Request.{Request}
 use Rattle.paper.specs.declared.Request.the-variants as request
 use Rattle.paper.specs.declared.Verdict.{Verdict}
-use Rattle.promises.specs.Answers.{gets}
+use Rattle.promises.proofs.OutState.{gets}
 use Rattle.promises.specs.Soundness.{Sound}
 
 module _ (t : Table) (s : ℕ) (k : Sound t) (e : isIn 9 (stream t s) ≡ true) where

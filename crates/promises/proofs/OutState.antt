@@ -30,10 +30,15 @@ use Rattle.paper.specs.declared.Correlation.{Correlation}
 use Rattle.paper.specs.declared.Verdict.{Verdict}
 use Rattle.paper.specs.declared.Verdict.the-variants.{Serves, Fails}
 use Rattle.paper.specs.declared.Input.{Input}
-use Rattle.promises.specs.Answers.{errorsIn, gets, Complete, isBusy, offersBusy}
-use Rattle.promises.proofs.ErrorAck.{row-tells}
+use Rattle.promises.specs.Answers.{Complete, isBusy, offersBusy}
+use Rattle.promises.proofs.ErrorAck.{errorsIn, row-tells}
 
 -- ---- the verdict on a request
+
+-- a verdict that answers with error e
+abbrev pub gets : ℕ → Verdict → Bool
+gets e (Serves r) = false
+gets e (Fails r) = eqb e (errorOf r)
 
 -- b says whether a verdict is OUTSTATE
 record Says (b : Bool) (v : Verdict) : Type 0 where

@@ -47,7 +47,8 @@ use Rattle.book.specs.Lines.{lineAt, openingLines, linesOf}
 use Rattle.book.proofs.Said.{said}
 use Rattle.book.proofs.ReadBack.{AllSized, starts, told-apart, lines-said}
 use Rattle.image.specs.Layout.{joined}
-use Rattle.promises.specs.Answers.{errorIn, errorsIn, errorAt, errorsTold}
+use Rattle.promises.specs.Answers.{errorAt, errorsTold}
+use Rattle.promises.proofs.ErrorAck.{errorIn, errorsIn}
 
 -- how far into the message a row reads
 abbrev reach : Row → ℕ

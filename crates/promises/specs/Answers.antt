@@ -3,7 +3,7 @@
 use Prim.Native.Nat.{ℕ, _≤_}
 use mathlib.Core.Path.{_≡_}
 use mathlib.Core.Bool.{Bool, true, false, not}
-use mathlib.Core.List.{List, [], _∷_, _++_}
+use mathlib.Core.List.{List, [], _∷_}
 use lib.ListN.{length, getD}
 use lib.Dec.{eqb}
 use Rattle.ledger.specs.Choice.{both, _⇒_∣_}
@@ -11,56 +11,27 @@ use Rattle.octets.specs.Numbers.{be32At}
 use Rattle.paper.specs.Base.{isIn, Table, slot}
 use Rattle.paper.specs.Messages.{askedBy}
 use Rattle.paper.specs.RecordsIn.{inputOf, messageIn}
-use Rattle.paper.specs.RecordsOut.{Record, order, flush, up}
-use Rattle.paper.specs.ErrorCodes.{errorOf}
+use Rattle.paper.specs.RecordsOut.{Record}
 use Rattle.paper.specs.ErrorOrder.{carrierOf, isWaiting}
 use Rattle.image.specs.Layout.{joined}
 use Rattle.transcript.specs.Transcript.{isMessage}
 use Rattle.book.specs.Lines.{recordsIn}
 use Rattle.paper.specs.declared.Input.the-variants as input
 use Rattle.paper.specs.declared.Asked.the-variants.{For}
-use Rattle.paper.specs.declared.Reply.{Reply}
-use Rattle.paper.specs.declared.Reply.the-variants as reply
 use Rattle.paper.specs.declared.Request.{Request}
 use Rattle.paper.specs.declared.Request.the-variants as request
 use Rattle.paper.specs.declared.Carrier.{Carrier}
 use Rattle.paper.specs.declared.Carrier.the-variants.{Itself, Other, None}
-use Rattle.paper.specs.declared.Verdict.{Verdict}
-use Rattle.paper.specs.declared.Verdict.the-variants.{Serves, Fails}
 
 -- ---- answered with DL_ERROR_ACK
 
--- the error that a reply tells: an ERROR_ACK its own, any other none
-abbrev pub errorIn : Reply → List ℕ
-errorIn (reply.InfoAck s) = []
-errorIn (reply.BindAck sap granted) = []
-errorIn (reply.ErrorAck code error) = error ∷ []
-errorIn (reply.OkAck code) = []
-errorIn (reply.ConnectInd n) = []
-errorIn reply.ConnectCon = []
-errorIn (reply.TokenAck k) = []
-errorIn (reply.DisconnectInd reason n) = []
-errorIn (reply.ResetInd reason) = []
-errorIn reply.ResetCon = []
-
--- the errors that a call's records tell
-abbrev pub errorsIn : List Record → List ℕ
-errorsIn [] = []
-errorsIn (order o called ∷ rs) = errorsIn rs
-errorsIn (flush i ∷ rs) = errorsIn rs
-errorsIn (up i r tail ∷ rs) = errorIn r ++ errorsIn rs
-
--- the same, read from the bytes written: of the record at the start of some bytes, of all
+-- the error that the record at the start of some bytes tells: an ERROR_ACK its own, any other none; and those of all records
+-- written
 unfoldable pub errorAt : List ℕ → List ℕ
 errorAt b = both (isMessage (getD b 0 0)) (eqb (be32At b 3) 0x05) ⇒ be32At b 11 ∷ [] ∣ []
 
 abbrev pub errorsTold : List ℕ → List ℕ
 errorsTold written = joined errorAt (recordsIn (length written) written)
-
--- a verdict that answers with error e
-abbrev pub gets : ℕ → Verdict → Bool
-gets e (Serves r) = false
-gets e (Fails r) = eqb e (errorOf r)
 
 -- ---- a complete message that we serve
 

@@ -4,11 +4,9 @@ use Prim.Native.Nat.{ℕ}
 use mathlib.Core.Path.{_≡_}
 use mathlib.Core.Bool.{true}
 use mathlib.Core.List.{List, [], _∷_, _++_}
-use lib.ListN.{length, take}
-use lib.Dec.{ltb}
-use Rattle.ledger.specs.Tally.{allOf}
+use lib.ListN.{take}
 use Rattle.paper.specs.Base.{Table}
-use Rattle.image.specs.Layout.{tableOf}
+use Rattle.image.specs.Layout.{tableOf, areBytes}
 use Rattle.outcomes.specs.Leaving.{Left, refusalIn, tokenIn, writtenIn, callOf}
 use Rattle.outcomes.specs.Fresh.{freshOf}
 use Rattle.promises.specs.History.{Answered}
@@ -16,7 +14,7 @@ use Rattle.promises.specs.History.{Answered}
 -- what is lent to a call besides the image: the bytes that it reads, and the room
 pub record Lending : Type 0 where
   pub bytes : List ℕ
-  pub areBytes : allOf (λ (b : ℕ). ltb b 256) bytes ≡ true
+  pub areBytes : areBytes bytes ≡ true
   pub room : List ℕ
 
 -- what the call leaves
@@ -27,7 +25,6 @@ leftOn img c = callOf img (c .bytes) (c .room)
 abbrev pub cameBack : Lending → Left → Answered
 cameBack c l = record {
   lent = c .bytes;
-  room = length (c .room);
   refusal = refusalIn (l .number);
   opened = tokenIn (l .number);
   written = take (writtenIn (l .number)) (l .room);

@@ -1,50 +1,24 @@
--- Histories: calls in any sequence, refused ones included, and what came back. From a history alone, never from a table: the
--- fates of the connection indications, their counts, those still open, the count granted.
+-- A history: what came back of calls in any sequence, refused ones included. From it alone, never from a table: the fates of the
+-- connection indications, their counts, those still open, the count granted, which streams are open.
 use Prim.Native.Nat.{ℕ, suc}
-use mathlib.Core.Path.{_≡_}
-use mathlib.Core.Bool.{Bool, true, not}
+use mathlib.Core.Bool.{Bool, not}
 use mathlib.Core.List.{List, [], _∷_, _++_}
 use lib.ListN.{getD}
-use lib.Dec.{eqb, ltb}
+use lib.Dec.{eqb}
 use Rattle.ledger.specs.Choice.{both, either}
-use Rattle.ledger.specs.Tally.{oneIf, sumOf, allOf}
-use Rattle.paper.specs.Base.{Table}
-use Rattle.paper.specs.RecordsOut.{allBytes}
-use Rattle.paper.specs.Refusals.{Outcome}
-use Rattle.paper.specs.Step.{step}
+use Rattle.ledger.specs.Tally.{oneIf, sumOf}
 use Rattle.book.specs.declared.End.the-variants.{Accepted, Denied, Withdrawn, Dropped}
 use Rattle.book.specs.declared.Line.{Line}
 use Rattle.book.specs.Lines.{linesOf}
 use Rattle.book.specs.Book.{Opening, openOf, openCount, newest, posts, countOf, tallies, grantBy}
 
--- ---- calls, and what they come to
-
--- a call: the bytes lent and the room's length
-pub record Call : Type 0 where
-  pub bytes : List ℕ
-  pub areBytes : allOf (λ (b : ℕ). ltb b 256) bytes ≡ true
-  pub room : ℕ
-
--- what came back: the refusal number, or the stream's token where one was opened and the bytes of the records written
+-- what came back of a call: the bytes lent to it; the refusal number, or the stream's token where one was opened and the bytes of
+-- the records written
 pub record Answered : Type 0 where
   pub lent : List ℕ
-  pub room : ℕ
   pub refusal : ℕ
   pub opened : ℕ
   pub written : List ℕ
-
-abbrev pub answeredBy : Call → Outcome → Answered
-answeredBy c o = record { lent = c .bytes; room = c .room; refusal = o .refusal; opened = o .opened; written = allBytes (o .records) }
-
--- the table after calls, from table t on
-unfoldable pub run : Table → List Call → Table
-run t [] = t
-run t (c ∷ cs) = run (step t (c .bytes) (c .room) .table) cs
-
--- the history of calls, from table t on
-unfoldable pub history : Table → List Call → List Answered
-history t [] = []
-history t (c ∷ cs) = answeredBy c (step t (c .bytes) (c .room)) ∷ history (step t (c .bytes) (c .room) .table) cs
 
 -- ---- what a history says
 

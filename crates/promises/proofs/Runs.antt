@@ -1,0 +1,30 @@
+-- Calls as `step` makes them on tables, one after the other, and their history: what the theorems are first proved of.
+use Prim.Native.Nat.{ℕ}
+use mathlib.Core.Path.{_≡_}
+use mathlib.Core.Bool.{true}
+use mathlib.Core.List.{List, [], _∷_}
+use Rattle.paper.specs.Base.{Table}
+use Rattle.paper.specs.RecordsOut.{allBytes}
+use Rattle.paper.specs.Refusals.{Outcome}
+use Rattle.paper.specs.Step.{step}
+use Rattle.image.specs.Layout.{areBytes}
+use Rattle.promises.specs.History.{Answered}
+
+-- a call: the bytes lent and the room's length
+pub record Call : Type 0 where
+  pub bytes : List ℕ
+  pub areBytes : areBytes bytes ≡ true
+  pub room : ℕ
+
+abbrev pub answeredBy : Call → Outcome → Answered
+answeredBy c o = record { lent = c .bytes; refusal = o .refusal; opened = o .opened; written = allBytes (o .records) }
+
+-- the table after calls, from table t on
+unfoldable pub run : Table → List Call → Table
+run t [] = t
+run t (c ∷ cs) = run (step t (c .bytes) (c .room) .table) cs
+
+-- the history of calls, from table t on
+unfoldable pub history : Table → List Call → List Answered
+history t [] = []
+history t (c ∷ cs) = answeredBy c (step t (c .bytes) (c .room)) ∷ history (step t (c .bytes) (c .room) .table) cs
