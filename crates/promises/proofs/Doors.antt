@@ -1,5 +1,5 @@
 -- Which calls open and close a stream: a served O alone gives a token, and it and a served X alone change which streams are open.
-use Prim.Native.Nat.{ℕ, zero, suc, _+_, _<_, _≤_}
+use Prim.Native.Nat.{ℕ, zero, suc, _+_, _<_}
 use mathlib.Core.Path.{_≡_, refl, sym, ap, _∙_}
 use mathlib.Core.Bool.{Bool, true, false, not}
 use mathlib.Core.List.{List, [], _∷_, map}
@@ -21,7 +21,7 @@ use Rattle.book.proofs.Sums.{put-same}
 use Rattle.paper.specs.Base.{Slot, closed, justOpened, Table, fresh, slot, stream, waiting, lowestFree, withSlot, withCalls, withStream, withCounter, withPpa, remembering}
 use Rattle.paper.specs.Events.{eventRow, peerAccepted, peerGone, callWithdrawn, peerReset, resetConfirmed, ringing, rings, heardBy, callArrives}
 use Rattle.paper.specs.Openings.{addsPpa, opens, closes}
-use Rattle.paper.specs.RecordsIn.{kindOf, inputAs, inputOf}
+use Rattle.paper.specs.RecordsIn.{inputOf}
 use Rattle.paper.specs.RecordsOut.{Record, order, flush, up}
 use Rattle.paper.specs.Refusals.{Outcome, refused}
 use Rattle.paper.specs.Rows.{losing, carryingItself, moved, tableAfter, performed}
@@ -29,8 +29,6 @@ use Rattle.paper.specs.Step.{answered, ofOpen, message, serve, step}
 use Rattle.paper.specs.declared.Correlation.{Correlation}
 use Rattle.paper.specs.declared.Input.{Input}
 use Rattle.paper.specs.declared.Input.the-variants as input
-use Rattle.paper.specs.declared.Kind.{Kind}
-use Rattle.paper.specs.declared.Kind.the-variants as kind
 use Rattle.paper.specs.declared.LineOrder.{LineOrder}
 use Rattle.paper.specs.declared.LineOrder.the-variants as lineOrder
 use Rattle.paper.specs.declared.Reply.{Reply}
@@ -47,70 +45,9 @@ use Rattle.promises.specs.Harness.{Harness, tableIn, heardIn}
 use Rattle.promises.specs.Soundness.{Sound}
 use Rattle.promises.proofs.Agreement.{linesFrom, are-bytes}
 use Rattle.promises.proofs.Harness.{callsOf, history-is, table-is, agreed, fair-heard}
+use Rattle.promises.proofs.Letters.{Letter, letter, no-close}
 use Rattle.promises.proofs.Steps.{good, fresh-sound, fresh-at}
 use Rattle.promises.proofs.Whole.{read-step}
-
--- ---- the letters of O and X
-
-abbrev KindLetter : Kind → ℕ → Type 0
-KindLetter kind.AddPpa b = b ≡ 88 → ⊥
-KindLetter kind.Open b = b ≡ 79
-KindLetter kind.Close b = b ≡ 88
-KindLetter kind.Message b = b ≡ 88 → ⊥
-KindLetter kind.CallArrives b = b ≡ 88 → ⊥
-KindLetter kind.PeerAccepted b = b ≡ 88 → ⊥
-KindLetter kind.PeerGone b = b ≡ 88 → ⊥
-KindLetter kind.CallWithdrawn b = b ≡ 88 → ⊥
-KindLetter kind.PeerReset b = b ≡ 88 → ⊥
-KindLetter kind.ResetConfirmed b = b ≡ 88 → ⊥
-KindLetter kind.Unknown b = 0 ≤ 0
-
-module _ (b : ℕ) where
-  abbrev Lettered : Kind → Type 0
-  Lettered k = KindLetter k b
-
-  not-x : (n : ℕ) → eqb b n ≡ true → (n ≡ 88 → ⊥) → b ≡ 88 → ⊥
-  not-x n e h f = h (sym (eqb-true b n e) ∙ f)
-
-  kind-letter : KindLetter (kindOf b) b
-  unfolding kindOf
-  kind-letter =
-      chosen Lettered _ _ _ (λ e. not-x 71 e (λ z. omega arith)) (λ _. chosen Lettered _ _ _ (λ e. eqb-true b 79 e) (λ _. chosen Lettered _ _ _ (λ e. eqb-true b 88 e)
-      (λ _. chosen Lettered _ _ _ (λ e. not-x 80 e (λ z. omega arith)) (λ _. chosen Lettered _ _ _ (λ e. not-x 67 e (λ z. omega arith)) (λ _. chosen Lettered _ _ _ (λ e. not-x 73 e (λ z. omega arith))
-      (λ _. chosen Lettered _ _ _ (λ e. not-x 65 e (λ z. omega arith)) (λ _. chosen Lettered _ _ _ (λ e. not-x 68 e (λ z. omega arith)) (λ _. chosen Lettered _ _ _ (λ e. not-x 87 e (λ z. omega arith))
-      (λ _. chosen Lettered _ _ _ (λ e. not-x 82 e (λ z. omega arith)) (λ _. chosen Lettered _ _ _ (λ e. not-x 83 e (λ z. omega arith)) (λ _. omega arith)))))))))))
-
--- what the first two bytes say of the record read
-abbrev Letter : ℕ → ℕ → Input → Type 0
-Letter b c input.Unreadable = 0 ≤ 0
-Letter b c input.Padded = 0 ≤ 0
-Letter b c (input.AddPpa p) = b ≡ 88 → ⊥
-Letter b c input.Open = b ≡ 79
-Letter b c (input.Close i) = (b ≡ 88) × (c ≡ i)
-Letter b c (input.Message i l) = b ≡ 88 → ⊥
-Letter b c (input.CallArrives p sap) = b ≡ 88 → ⊥
-Letter b c (input.PeerAccepted i) = b ≡ 88 → ⊥
-Letter b c (input.PeerGone i reason) = b ≡ 88 → ⊥
-Letter b c (input.CallWithdrawn i n reason) = b ≡ 88 → ⊥
-Letter b c (input.PeerReset i reason) = b ≡ 88 → ⊥
-Letter b c (input.ResetConfirmed i) = b ≡ 88 → ⊥
-
-letter-as : (k : Kind) (r : List ℕ) → KindLetter k (getD r 0 0) → Letter (getD r 0 0) (getD r 1 0) (inputAs k r)
-letter-as kind.AddPpa r h = h
-letter-as kind.Open r h = h
-letter-as kind.Close r h = (h, refl)
-letter-as kind.Message r h = chosen (Letter (getD r 0 0) (getD r 1 0)) _ _ _ (λ e. omega arith) (λ e. h)
-letter-as kind.CallArrives r h = h
-letter-as kind.PeerAccepted r h = h
-letter-as kind.PeerGone r h = h
-letter-as kind.CallWithdrawn r h = h
-letter-as kind.PeerReset r h = h
-letter-as kind.ResetConfirmed r h = h
-letter-as kind.Unknown r h = h
-
-letter : (r : List ℕ) → Letter (getD r 0 0) (getD r 1 0) (inputOf r)
-unfolding inputOf
-letter r = chosen (Letter (getD r 0 0) (getD r 1 0)) _ _ _ (λ e. omega arith) (λ e. letter-as (kindOf (getD r 0 0)) r (kind-letter (getD r 0 0)))
 
 -- ---- what changes a stream, but does not open or close it
 
@@ -166,6 +103,7 @@ module _ (t : Table) (r : List ℕ) where
   record Door (o : Outcome) : Type 0 where
     token : (s : ℕ) → Opens o s ≡ eqb (o .opened) (suc s)
     door : (s : ℕ) → slot (o .table) s .isOpen ≡ either (Opens o s) (both (not (Closes o s)) (slot t s .isOpen))
+    alone : 0 < o .opened → o .records ≡ []
 
   no-token : (o : Outcome) → o .opened ≡ 0 → (s : ℕ) → Opens o s ≡ eqb (o .opened) (suc s)
   no-token o e s = rw (e, none-first s) (ap (both (eqb (getD r 0 0) 79)) (both-none (eqb (o .refusal) 0)) ∙ both-none (eqb (getD r 0 0) 79))
@@ -173,11 +111,11 @@ module _ (t : Table) (r : List ℕ) where
   no : {n : ℕ} → 0 < n → Door (refused t n)
   no {n} h =
       let z : eqb n 0 ≡ false = ne-eqb n 0 (λ e. omega (arith, e)) in
-      record { token = no-token (refused t n) refl; door = λ s. rw (z, both-none (eqb (getD r 0 0) 79), both-none (eqb (getD r 0 0) 88)) }
+      record { token = no-token (refused t n) refl; door = λ s. rw (z, both-none (eqb (getD r 0 0) 79), both-none (eqb (getD r 0 0) 88)); alone = λ e. refl }
 
   -- served, with no token, and not for an X
   yes : (o : Outcome) → (getD r 0 0 ≡ 88 → ⊥) → o .opened ≡ 0 → ((s : ℕ) → slot (o .table) s .isOpen ≡ slot t s .isOpen) → Door o
-  yes o x e h = record { token = no-token o e; door = λ s. h s ∙ rw (no-token o e s, e, none-first s, ne-eqb (getD r 0 0) 88 x) }
+  yes o x e h = record { token = no-token o e; door = λ s. h s ∙ rw (no-token o e s, e, none-first s, ne-eqb (getD r 0 0) 88 x); alone = λ h. absurd (omega (arith, e, h)) }
 
   infixr 5 _⟹_∣_
   _⟹_∣_ : (b : Bool) {o p : Outcome} → Door o → Door p → Door (b ⇒ o ∣ p)
@@ -197,6 +135,7 @@ module _ (t : Table) (r : List ℕ) where
   door-opens e k = chosen Door _ _ _ (λ f. record {
     token = λ s. rw e;
     door = λ s. rw e (at-slot s (eqb (lowestFree t) s) refl (ltb-true _ _ f));
+    alone = λ h. refl;
   }) (λ f. no (omega arith))
     where
       at-slot : (s : ℕ) (b : Bool) → eqb (lowestFree t) s ≡ b → lowestFree t < 16 → slot (withSlot (remembering t) (lowestFree t) justOpened) s .isOpen ≡ either (eqb (suc (lowestFree t)) (suc s)) (slot t s .isOpen)
@@ -209,7 +148,7 @@ module _ (t : Table) (r : List ℕ) where
 
   door-closes : (i : ℕ) → getD r 0 0 ≡ 88 → getD r 1 0 ≡ i → slot t i .isOpen ≡ true → Door (closes t i)
   unfolding closes withSlot
-  door-closes i e f h = record { token = no-token (closes t i) refl; door = λ s. rw (e, f) (at-slot s (eqb i s) refl) }
+  door-closes i e f h = record { token = no-token (closes t i) refl; door = λ s. rw (e, f) (at-slot s (eqb i s) refl); alone = λ h. absurd (omega arith) }
     where
       at-slot : (s : ℕ) (b : Bool) → eqb i s ≡ b → slot (withSlot t i closed) s .isOpen ≡ both (not b) (slot t s .isOpen)
       at-slot s true q = ap (λ (j : ℕ). slot (withSlot t i closed) j .isOpen) (sym (eqb-true i s q)) ∙ ap (λ (x : Slot). x .isOpen) (getD-set-same (t .slots) i closed closed (within (λ (x : Slot). x .isOpen) closed refl (t .slots) i h))
@@ -219,20 +158,20 @@ module _ (t : Table) (r : List ℕ) where
   unfolding ofOpen
   door-open i o h = chosen Door _ _ _ (λ e. no (omega arith)) (λ e. h (not-false _ e))
 
-  door-serve : length (t .slots) ≡ 16 → (q : Input) → Letter (getD r 0 0) (getD r 1 0) q → Door (serve t r q)
+  door-serve : length (t .slots) ≡ 16 → (q : Input) → Letter r q → Door (serve t r q)
   unfolding addsPpa withPpa message callArrives heardBy rings ringing withCounter callWithdrawn peerAccepted peerGone peerReset resetConfirmed
   door-serve k input.Unreadable l = no (omega arith)
   door-serve k input.Padded l = no (omega arith)
-  door-serve k (input.AddPpa p) l = _ ⟹ no (omega arith) ∣ _ ⟹ no (omega arith) ∣ _ ⟹ no (omega arith) ∣ yes _ l refl (λ s. refl)
+  door-serve k (input.AddPpa p) l = _ ⟹ no (omega arith) ∣ _ ⟹ no (omega arith) ∣ _ ⟹ no (omega arith) ∣ yes _ (λ e. omega (arith, l, e)) refl (λ s. refl)
   door-serve k input.Open l = door-opens l k
   door-serve k (input.Close i) l = door-open i _ (door-closes i (l .0) (l .1))
-  door-serve k (input.Message i n) l = door-open i _ (λ o. _ ⟹ no (omega arith) ∣ _ ⟹ no (omega arith) ∣ door-answer l i _ _)
-  door-serve k (input.CallArrives p sap) l = _ ⟹ no (omega arith) ∣ _ ⟹ no (omega arith) ∣ _ ⟹ no (omega arith) ∣ _ ⟹ no (omega arith) ∣ yes _ l refl (λ s. open-calls _ _ _ _ s)
-  door-serve k (input.PeerAccepted i) l = door-open i _ (λ o. door-event l i _ _ _)
-  door-serve k (input.PeerGone i reason) l = door-open i _ (λ o. door-event l i _ _ _)
-  door-serve k (input.CallWithdrawn i n reason) l = door-open i _ (λ o. _ ⟹ yes _ l refl (open-losing t i n) ∣ no (omega arith))
-  door-serve k (input.PeerReset i reason) l = door-open i _ (λ o. door-event l i _ _ _)
-  door-serve k (input.ResetConfirmed i) l = door-open i _ (λ o. door-event l i _ _ _)
+  door-serve k (input.Message i n) l = door-open i _ (λ o. _ ⟹ no (omega arith) ∣ _ ⟹ no (omega arith) ∣ door-answer (no-close _ (l .0)) i _ _)
+  door-serve k (input.CallArrives p sap) l = _ ⟹ no (omega arith) ∣ _ ⟹ no (omega arith) ∣ _ ⟹ no (omega arith) ∣ _ ⟹ no (omega arith) ∣ yes _ (λ e. omega (arith, l, e)) refl (λ s. open-calls _ _ _ _ s)
+  door-serve k (input.PeerAccepted i) l = door-open i _ (λ o. door-event (λ e. omega (arith, l, e)) i _ _ _)
+  door-serve k (input.PeerGone i reason) l = door-open i _ (λ o. door-event (λ e. omega (arith, l, e)) i _ _ _)
+  door-serve k (input.CallWithdrawn i n reason) l = door-open i _ (λ o. _ ⟹ yes _ (λ e. omega (arith, l .0, e)) refl (open-losing t i n) ∣ no (omega arith))
+  door-serve k (input.PeerReset i reason) l = door-open i _ (λ o. door-event (λ e. omega (arith, l, e)) i _ _ _)
+  door-serve k (input.ResetConfirmed i) l = door-open i _ (λ o. door-event (λ e. omega (arith, l, e)) i _ _ _)
 
   door-step : length (t .slots) ≡ 16 → (room : ℕ) → Door (step t r room)
   unfolding step

@@ -20,6 +20,7 @@ pub mod Sights
 pub mod Steps
 pub mod Room
 pub mod Whole
+pub mod Letters
 -- Runs on tables; history and table agree, call by call; what a harness hears is that history; what may be named in state 9.
 pub mod Runs
 pub mod Agreement

@@ -1,6 +1,7 @@
 -- "A refusal writes no record and changes no table": a call that is refused comes to nothing but its number.
-use Prim.Native.Nat.{ℕ}
-use mathlib.Core.Path.{_≡_, refl, sym, _∙_}
+use Prim.Native.Nat.{ℕ, _<_}
+use native.Mathlib.Omega.{arith}
+use mathlib.Core.Path.{_≡_, refl, sym, ap, _∙_}
 use mathlib.Core.Bool.{Bool, true, false, false≢true}
 use mathlib.Core.List.{List}
 use lib.Dec.{ltb}
@@ -21,12 +22,13 @@ use Rattle.paper.specs.declared.Verdict.the-variants.{Serves, Fails}
 module _ (t : Table) where
   record Bare (o : Outcome) : Type 0 where
     bare : ltb 0 (o .refusal) ≡ true → o ≡ refused t (o .refusal)
+    small : o .refusal < 17
 
-  no : {n : ℕ} → Bare (refused t n)
-  no = record { bare = λ e. refl }
+  no : {n : ℕ} → n < 17 → Bare (refused t n)
+  no h = record { bare = λ e. refl; small = h }
 
-  yes : {o : Outcome} → ltb 0 (o .refusal) ≡ false → Bare o
-  yes h = record { bare = λ e. absurd (false≢true (sym h ∙ e)) }
+  yes : {o : Outcome} → o .refusal ≡ 0 → Bare o
+  yes {o} h = record { bare = λ e. absurd (false≢true (sym (ap (ltb 0) h) ∙ e)); small = omega (arith, h) }
 
   -- an order of tests, of which each answer is such
   infixr 5 _⟹_∣_
@@ -41,22 +43,26 @@ module _ (t : Table) where
   -- each kind of record in, as `serve` reads
   bare-serve : (r : List ℕ) (q : Input) → Bare (serve t r q)
   unfolding ofOpen addsPpa opens closes message callArrives heardBy rings peerAccepted peerGone callWithdrawn peerReset resetConfirmed eventRow
-  bare-serve r input.Unreadable = no
-  bare-serve r input.Padded = no
-  bare-serve r (input.AddPpa p) = _ ⟹ no ∣ _ ⟹ no ∣ _ ⟹ no ∣ yes refl
-  bare-serve r input.Open = _ ⟹ yes refl ∣ no
-  bare-serve r (input.Close i) = _ ⟹ no ∣ yes refl
-  bare-serve r (input.Message i l) = _ ⟹ no ∣ _ ⟹ no ∣ _ ⟹ no ∣ bare-answer i _ _
-  bare-serve r (input.CallArrives p sap) = _ ⟹ no ∣ _ ⟹ no ∣ _ ⟹ no ∣ _ ⟹ no ∣ yes refl
-  bare-serve r (input.PeerAccepted i) = _ ⟹ no ∣ _ ⟹ yes refl ∣ no
-  bare-serve r (input.PeerGone i reason) = _ ⟹ no ∣ _ ⟹ yes refl ∣ no
-  bare-serve r (input.CallWithdrawn i n reason) = _ ⟹ no ∣ _ ⟹ yes refl ∣ no
-  bare-serve r (input.PeerReset i reason) = _ ⟹ no ∣ _ ⟹ yes refl ∣ no
-  bare-serve r (input.ResetConfirmed i) = _ ⟹ no ∣ _ ⟹ yes refl ∣ no
+  bare-serve r input.Unreadable = no (omega arith)
+  bare-serve r input.Padded = no (omega arith)
+  bare-serve r (input.AddPpa p) = _ ⟹ no (omega arith) ∣ _ ⟹ no (omega arith) ∣ _ ⟹ no (omega arith) ∣ yes refl
+  bare-serve r input.Open = _ ⟹ yes refl ∣ no (omega arith)
+  bare-serve r (input.Close i) = _ ⟹ no (omega arith) ∣ yes refl
+  bare-serve r (input.Message i l) = _ ⟹ no (omega arith) ∣ _ ⟹ no (omega arith) ∣ _ ⟹ no (omega arith) ∣ bare-answer i _ _
+  bare-serve r (input.CallArrives p sap) = _ ⟹ no (omega arith) ∣ _ ⟹ no (omega arith) ∣ _ ⟹ no (omega arith) ∣ _ ⟹ no (omega arith) ∣ yes refl
+  bare-serve r (input.PeerAccepted i) = _ ⟹ no (omega arith) ∣ _ ⟹ yes refl ∣ no (omega arith)
+  bare-serve r (input.PeerGone i reason) = _ ⟹ no (omega arith) ∣ _ ⟹ yes refl ∣ no (omega arith)
+  bare-serve r (input.CallWithdrawn i n reason) = _ ⟹ no (omega arith) ∣ _ ⟹ yes refl ∣ no (omega arith)
+  bare-serve r (input.PeerReset i reason) = _ ⟹ no (omega arith) ∣ _ ⟹ yes refl ∣ no (omega arith)
+  bare-serve r (input.ResetConfirmed i) = _ ⟹ no (omega arith) ∣ _ ⟹ yes refl ∣ no (omega arith)
 
   bare-step : (r : List ℕ) (room : ℕ) → Bare (step t r room)
   unfolding step
-  bare-step r room = _ ⟹ no ∣ _ ⟹ no ∣ _ ⟹ no ∣ bare-serve r (inputOf r)
+  bare-step r room = _ ⟹ no (omega arith) ∣ _ ⟹ no (omega arith) ∣ _ ⟹ no (omega arith) ∣ bare-serve r (inputOf r)
 
 pub refusal-is-all : (t : Table) (r : List ℕ) (room : ℕ) → ltb 0 (step t r room .refusal) ≡ true → step t r room ≡ refused t (step t r room .refusal)
 refusal-is-all t r room = bare-step t r room .bare
+
+-- and the number is one of the paper's, 16 at most
+pub refusal-small : (t : Table) (r : List ℕ) (room : ℕ) → step t r room .refusal < 17
+refusal-small t r room = bare-step t r room .small
