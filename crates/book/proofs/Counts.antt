@@ -14,6 +14,7 @@ use Rattle.book.specs.declared.End.the-variants.{Accepted, Denied, Withd
 use Rattle.book.specs.declared.Line.{Line}
 use Rattle.book.specs.declared.Line.the-variants.{Began, Came, Went, Given, Nothing}
 use Rattle.book.specs.Lines.{telling}
+use Rattle.book.proofs.Telling.{tally-telling}
 use Rattle.book.specs.Book.{Fate, stillOpen, met, Opening, isStillOpen, countOf, openOf, mark, noted, newest, onNewest, post, posts, bump, tallyLine, tallies, countsAs, countIn, openCount, leftOpen}
 use Rattle.ledger.proofs.Tallies.{both-of}
 use Rattle.book.proofs.Sums.{pick-to}
@@ -89,16 +90,6 @@ none-left [] z j = refl
 none-left (o ∷ b) z j = none-open b z j
 
 -- ---- what a call's lines add to the counts of the newest opening
-
--- lines that say nothing add nothing
-tally-telling : (k s : ℕ) (ys : List Line) (ts : List ℕ) → tallies k s (telling ys) ts ≡ tallies k s ys ts
-unfolding tallies
-tally-telling k s [] ts = refl
-tally-telling k s (Began i ∷ ys) ts = tally-telling k s ys (tallyLine k s (Began i) ts)
-tally-telling k s (Came i n ∷ ys) ts = tally-telling k s ys (tallyLine k s (Came i n) ts)
-tally-telling k s (Went i n e ∷ ys) ts = tally-telling k s ys (tallyLine k s (Went i n e) ts)
-tally-telling k s (Given i g ∷ ys) ts = tally-telling k s ys ts
-tally-telling k s (Nothing ∷ ys) ts = tally-telling k s ys ts
 
 bump-first : (n : ℕ) (ts : List ℕ) → getD (bump n ts) 0 0 ≡ getD ts 0 0 + n
 bump-first n [] = omega arith

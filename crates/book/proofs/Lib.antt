@@ -1,5 +1,7 @@
 pub mod Sums
 pub mod Shades
+pub mod Telling
 pub mod Counts
+pub mod Marks
 pub mod Said
 pub mod ReadBack

@@ -1,5 +1,5 @@
 -- What a line of the history does to the open numbers of a stream, and that the book follows it.
-use Prim.Native.Nat.{ℕ, zero, suc, _+_, _<_}
+use Prim.Native.Nat.{ℕ, zero, suc, _+_, _≤_, _<_}
 use mathlib.Core.Path.{_≡_, refl, ap, _∙_}
 use mathlib.Core.Bool.{Bool, true, false}
 use mathlib.Core.List.{List, [], _∷_, _++_, map}
@@ -13,7 +13,7 @@ use Rattle.ledger.proofs.Tallies.{both-of, to-both, picked}
 use Rattle.book.specs.declared.End.{End}
 use Rattle.book.specs.declared.Line.{Line}
 use Rattle.book.specs.declared.Line.the-variants.{Began, Came, Went, Given, Nothing}
-use Rattle.book.specs.Book.{grantLine, grantBy, Fate, stillOpen, met, Opening, isStillOpen, openOf, mark, noted, newest, onNewest, post, posts, leftOpen, tallies, tallyLine}
+use Rattle.book.specs.Book.{grantLine, grantBy, Fate, stillOpen, met, Opening, isStillOpen, openOf, mark, noted, newest, earlier, onNewest, post, posts, leftOpen, tallies, tallyLine}
 use Rattle.book.proofs.Sums.{pick-to}
 
 -- the open numbers of stream s after a line
@@ -265,3 +265,30 @@ length-posts s (y ∷ ys) b f r =
     let r′ : (rooted s y (length b) ≡ true) × (rooteds s ys (openings s y (length b)) ≡ true) = both-of _ _ r in
     let l : length (post s y b) ≡ openings s y (length b) = length-post s y b (f′ .0) (r′ .0) in
     length-posts s ys (post s y b) (ap (fairs s ys) (open-post s y b) ∙ f′ .1) (ap (rooteds s ys) l ∙ r′ .1) ∙ ap (openingsIn s ys) l
+
+-- ---- where none is begun, the openings before the newest stay
+
+grows : (s : ℕ) (ys : List Line) (k : ℕ) → k ≤ openingsIn s ys k
+grows s [] k = omega arith
+grows s (Began i ∷ ys) k = omega (arith, grows s ys (openings s (Began i) k), picked (λ (m : ℕ). k ≤ m) (eqb s i) (suc k) k (λ e. omega arith) (λ e. omega arith))
+grows s (Came i n ∷ ys) k = grows s ys k
+grows s (Went i n e ∷ ys) k = grows s ys k
+grows s (Given i g ∷ ys) k = grows s ys k
+grows s (Nothing ∷ ys) k = grows s ys k
+
+earlier-front : (g : Opening → Opening) (b : List Opening) → earlier (onNewest g b) ≡ earlier b
+earlier-front g [] = refl
+earlier-front g (o ∷ b) = refl
+
+pub earlier-posts : (s : ℕ) (ys : List Line) (b : List Opening) → openingsIn s ys 0 ≡ 0 → earlier (posts s ys b) ≡ earlier b
+unfolding posts
+earlier-posts s [] b h = refl
+earlier-posts s (Began i ∷ ys) b h = go (eqb s i) h (λ z. earlier-posts s ys b z)
+  where
+    go : (q : Bool) → openingsIn s ys (pick q 1 0) ≡ 0 → (openingsIn s ys 0 ≡ 0 → earlier (posts s ys b) ≡ earlier b) → earlier (posts s ys (pick q ([] ∷ b) b)) ≡ earlier b
+    go true h r = absurd (omega (arith, h, grows s ys 1))
+    go false h r = r h
+earlier-posts s (Came i n ∷ ys) b h = earlier-posts s ys (post s (Came i n) b) h ∙ picked (λ (d : List Opening). earlier d ≡ earlier b) (eqb s i) _ _ (λ e. earlier-front (noted n) b) (λ e. refl)
+earlier-posts s (Went i n e ∷ ys) b h = earlier-posts s ys (post s (Went i n e) b) h ∙ picked (λ (d : List Opening). earlier d ≡ earlier b) (eqb s i) _ _ (λ f. earlier-front (mark n e) b) (λ f. refl)
+earlier-posts s (Given i g ∷ ys) b h = earlier-posts s ys b h
+earlier-posts s (Nothing ∷ ys) b h = earlier-posts s ys b h

@@ -25,6 +25,10 @@ pub record Indication : Type 0 where
 abbrev pub Opening : Type 0
 Opening = List Indication
 
+-- past the end of an opening
+abbrev pub noIndication : Indication
+noIndication = record { number = 0; fate = stillOpen }
+
 abbrev pub isStillOpen : Fate → Bool
 isStillOpen stillOpen = true
 isStillOpen (met e) = false

@@ -4,16 +4,16 @@ use Prim.Native.Nat.{ℕ, _+_, _*_, _<_}
 use mathlib.Core.Path.{_≡_, refl, sym, ap, subst, _∙_}
 use mathlib.Core.Bool.{Bool, true, false, false≢true}
 use mathlib.Core.List.{List, [], _∷_, map}
-use lib.ListN.{length, getD}
+use lib.ListN.{length, getD, set}
 use lib.Dec.{eqb}
 use native.Mathlib.Omega.{arith}
-use borrow.Author.Tests.{ne-eqb, not-false}
+use borrow.Author.Tests.{eq-eqb, ne-eqb, lt-ltb, not-false}
 use Rattle.ledger.specs.Tally.{oneIf, occ}
 use Rattle.ledger.proofs.Tallies.{chosen, empty}
 use Rattle.paper.specs.Base.{Slot, closed, Table, slot, stream, waiting, ppaNumbers}
-use Rattle.paper.specs.Correlations.{occurrences}
+use Rattle.paper.specs.Correlations.{occurrences, nextNumber}
 use Rattle.paper.specs.ErrorOrder.{carrierOf, judgeOther, judgeItself, judgeCarrier, judgeAccept, judgeDenial, judgeDisconnect, isWaiting, judgeServed, judge}
-use Rattle.paper.specs.Events.{callWithdrawn}
+use Rattle.paper.specs.Events.{callWithdrawn, rings, heardBy, callArrives}
 use Rattle.paper.specs.Openings.{goodbye, goodbyes, closes}
 use Rattle.paper.specs.RecordsIn.{inputOf, messageIn}
 use Rattle.paper.specs.RecordsOut.{Record, inOrder}
@@ -35,33 +35,39 @@ use Rattle.paper.specs.declared.Verdict.the-variants.{Fails}
 use Rattle.book.specs.declared.End.{End}
 use Rattle.book.specs.declared.End.the-variants.{Accepted, Denied, Withdrawn, Dropped}
 use Rattle.book.specs.declared.Line.{Line}
-use Rattle.book.specs.declared.Line.the-variants.{Went}
+use Rattle.book.specs.declared.Line.the-variants.{Went, Came}
 use Rattle.book.specs.Lines.{telling}
-use Rattle.book.specs.Book.{countOf, tallies}
+use Rattle.book.specs.Book.{countOf, tallies, stillOpen, met, Opening, noIndication, mark, newest, onNewest, posts}
 use Rattle.book.proofs.Counts.{ends-counted}
 use Rattle.book.proofs.Said.{lineOf, said}
-use Rattle.book.proofs.Shades.{tallies-append}
 use Rattle.book.proofs.Sums.{sum-at}
 use Rattle.promises.specs.Answers.{errorsTold, Complete}
 use Rattle.promises.proofs.ErrorAck.{errorsIn}
-use Rattle.promises.specs.History.{saidBy, lines, openBy, counted, accepted, denied, withdrawn, dropped}
+use Rattle.promises.specs.History.{saidBy, lines, openBy, counted, fates}
 use Rattle.promises.specs.Harness.{Lending, Harness, tableIn, heardIn, nextIn, andThen}
 use Rattle.promises.specs.Soundness.{Sound}
 use Rattle.promises.proofs.Changes.{quiet}
-use Rattle.promises.proofs.Harness.{outcome, agreed, errors-heard, lines-heard, refusal-heard, lines-more}
+use Rattle.promises.proofs.Harness.{outcome, agreed, errors-heard, lines-heard, refusal-heard, fates-more, counts-more}
 use Rattle.promises.proofs.OutState.{answers}
 use Rattle.promises.proofs.Steps.{open-nonzero}
+use Rattle.ledger.specs.Choice.{pick}
+use Rattle.paper.specs.Saps.{listener}
+use Rattle.paper.specs.declared.PpaNumber.{PpaNumber}
+use Rattle.book.proofs.Marks.{marked}
+use Rattle.book.proofs.Telling.{posts-telling}
+use Rattle.promises.proofs.Demand3.{once-on-a-stream}
+use Rattle.promises.proofs.Refused.{refusal-is-all}
 use Rattle.promises.proofs.Tested.{sound-test}
 
 -- ---- of a message: by the verdict on it
 
 -- where no error is told, these lines are
-record Tells (t : Table) (i l : ℕ) (ys : List Line) (v : Verdict) : Type 0 where
-  tells : (m : List ℕ) → errorsIn (answered t i m v .records) ≡ []
+pub record Tells (t : Table) (i l : ℕ) (ys : List Line) (v : Verdict) : Type 0 where
+  pub tells : (m : List ℕ) → errorsIn (answered t i m v .records) ≡ []
       → telling (said (input.Message i l) (answered t i m v .opened) (answered t i m v .records)) ≡ ys
 
 module _ (t : Table) (i l : ℕ) where
-  fails : (ys : List Line) (r : Rule) → Tells t i l ys (Fails r)
+  pub fails : (ys : List Line) (r : Rule) → Tells t i l ys (Fails r)
   unfolding answered
   fails ys r = record { tells = λ m e. absurd (omega (arith, ap length e)) }
 
@@ -92,7 +98,7 @@ module _ (t : Table) (i l : ℕ) where
       Denies = Tells t i l (Went i (d .correlation .0) Denied ∷ [])
 
 -- what a complete message says where no error is told
-message-says : (x : Harness) (c : Lending) (s : ℕ) (q : Request) (ys : List Line) → (m : Complete (tableIn x) (c .bytes) (length (c .room)) s q)
+pub message-says : (x : Harness) (c : Lending) (s : ℕ) (q : Request) (ys : List Line) → (m : Complete (tableIn x) (c .bytes) (length (c .room)) s q)
     → Tells (tableIn x) s (m .size) ys (judge (tableIn x) s q) → errorsTold (nextIn x c .written) ≡ [] → telling (saidBy (nextIn x c)) ≡ ys
 message-says x c s q ys m h e =
     let o : outcome (tableIn x) c ≡ answered (tableIn x) s (messageIn (c .bytes) (m .size)) (judge (tableIn x) s q)
@@ -148,6 +154,26 @@ input-says x c q ys e h z =
 
 -- ---- the laws: what is heard of one call more
 
+says-arrives : (t : Table) (p : PpaNumber) (sap : ℕ) (called calling : List ℕ) → Says (input.CallArrives p sap) (Came (listener t p sap) (nextNumber t) ∷ []) (callArrives t p sap called calling)
+unfolding callArrives heardBy rings
+says-arrives t p sap called calling = chosen P _ _ _ (λ e. refuses _ _ t _ (omega arith)) (λ e. chosen P _ _ _ (λ e. refuses _ _ t _ (omega arith)) (λ e. chosen P _ _ _ (λ e. refuses _ _ t _ (omega arith)) (λ e. chosen P _ _ _ (λ e. refuses _ _ t _ (omega arith))
+    (λ e. record { says = λ z. refl }))))
+  where
+    P : Outcome → Type 0
+    P = Says (input.CallArrives p sap) (Came (listener t p sap) (nextNumber t) ∷ [])
+
+-- A served I says that one indication came, to the stream that listens and with the next number, and nothing else.
+pub arrival-says : (x : Harness) (c : Lending) (p : PpaNumber) (sap : ℕ) → inputOf (c .bytes) ≡ input.CallArrives p sap
+    → nextIn x c .refusal ≡ 0 → telling (saidBy (nextIn x c)) ≡ Came (listener (tableIn x) p sap) (nextNumber (tableIn x)) ∷ []
+arrival-says x c p sap e = input-says x c _ _ e (says-arrives (tableIn x) p sap _ _)
+
+-- A refused call says nothing.
+pub refused-says-nothing : (x : Harness) (c : Lending) → 0 < nextIn x c .refusal → saidBy (nextIn x c) ≡ []
+refused-says-nothing x c h =
+    let o : outcome (tableIn x) c ≡ refused (tableIn x) (outcome (tableIn x) c .refusal)
+    = refusal-is-all (tableIn x) (c .bytes) (length (c .room)) (lt-ltb 0 (outcome (tableIn x) c .refusal) (omega (arith, h, refusal-heard x c))) in
+    lines-heard x c ∙ ap (λ (o : Outcome). said (inputOf (c .bytes)) (o .opened) (o .records)) o
+
 -- A served accept of number n says 'accepted' of n and nothing else,
 pub accept-says : (x : Harness) (c : Lending) (s : ℕ) (a : ConnectResponse) → Complete (tableIn x) (c .bytes) (length (c .room)) s (request.ConnectRes a)
     → errorsTold (nextIn x c .written) ≡ [] → telling (saidBy (nextIn x c)) ≡ Went s (a .correlation .0) Accepted ∷ []
@@ -170,27 +196,43 @@ close-says x c s e z =
     input-says x c _ _ e (says-open (tableIn x) (agreed x s .sound) s _ _ _ (says-closes (tableIn x) (agreed x s .sound) s)) z
     ∙ ap (map (λ (n : ℕ). Went s n Dropped)) (sym (agreed x s .now))
 
--- ---- and so each is counted under its own name, in the stream's newest opening
+-- ---- and so each is counted under its own name, and under no other, in the stream's newest opening
 
 counts-by : (x : Harness) (c : Lending) (k s : ℕ) (e : End) (w : List ℕ) → telling (saidBy (nextIn x c)) ≡ map (λ (n : ℕ). Went s n e) w
     → counted k s 0 (heardIn (andThen x c)) ≡ counted k s 0 (heardIn x) + oneIf (eqb k (countOf e)) * length w
 counts-by x c k s e w h =
-    ap (λ (ys : List Line). getD (tallies k s ys []) 0 0) (lines-more x c)
-    ∙ ap (λ (l : List ℕ). getD l 0 0) (tallies-append k s (lines (heardIn x)) (saidBy (nextIn x c)) [])
+    ap (λ (l : List ℕ). getD l 0 0) (counts-more x c k s)
     ∙ ends-counted k s e w (saidBy (nextIn x c)) (tallies k s (lines (heardIn x)) []) h
 
-pub accept-counts : (x : Harness) (c : Lending) (s : ℕ) (a : ConnectResponse) → Complete (tableIn x) (c .bytes) (length (c .room)) s (request.ConnectRes a)
-    → errorsTold (nextIn x c .written) ≡ [] → accepted s 0 (heardIn (andThen x c)) ≡ accepted s 0 (heardIn x) + 1
-accept-counts x c s a m e = counts-by x c (countOf Accepted) s Accepted (a .correlation .0 ∷ []) (accept-says x c s a m e)
+pub accept-counts : (x : Harness) (c : Lending) (k s : ℕ) (a : ConnectResponse) → Complete (tableIn x) (c .bytes) (length (c .room)) s (request.ConnectRes a)
+    → errorsTold (nextIn x c .written) ≡ [] → counted k s 0 (heardIn (andThen x c)) ≡ counted k s 0 (heardIn x) + oneIf (eqb k (countOf Accepted))
+accept-counts x c k s a m e = counts-by x c k s Accepted (a .correlation .0 ∷ []) (accept-says x c s a m e) ∙ omega arith
 
-pub denial-counts : (x : Harness) (c : Lending) (s : ℕ) (d : DisconnectRequest) → Complete (tableIn x) (c .bytes) (length (c .room)) s (request.Disconnect d) → 0 < d .correlation .0
-    → errorsTold (nextIn x c .written) ≡ [] → denied s 0 (heardIn (andThen x c)) ≡ denied s 0 (heardIn x) + 1
-denial-counts x c s d m h e = counts-by x c (countOf Denied) s Denied (d .correlation .0 ∷ []) (denial-says x c s d m h e)
+pub denial-counts : (x : Harness) (c : Lending) (k s : ℕ) (d : DisconnectRequest) → Complete (tableIn x) (c .bytes) (length (c .room)) s (request.Disconnect d) → 0 < d .correlation .0
+    → errorsTold (nextIn x c .written) ≡ [] → counted k s 0 (heardIn (andThen x c)) ≡ counted k s 0 (heardIn x) + oneIf (eqb k (countOf Denied))
+denial-counts x c k s d m h e = counts-by x c k s Denied (d .correlation .0 ∷ []) (denial-says x c s d m h e) ∙ omega arith
 
-pub withdrawal-counts : (x : Harness) (c : Lending) (s : ℕ) (n : Correlation) (reason : ℕ) → inputOf (c .bytes) ≡ input.CallWithdrawn s n reason
-    → nextIn x c .refusal ≡ 0 → withdrawn s 0 (heardIn (andThen x c)) ≡ withdrawn s 0 (heardIn x) + 1
-withdrawal-counts x c s n reason e z = counts-by x c (countOf Withdrawn) s Withdrawn (n .0 ∷ []) (withdrawal-says x c s n reason e z)
+pub withdrawal-counts : (x : Harness) (c : Lending) (k s : ℕ) (n : Correlation) (reason : ℕ) → inputOf (c .bytes) ≡ input.CallWithdrawn s n reason
+    → nextIn x c .refusal ≡ 0 → counted k s 0 (heardIn (andThen x c)) ≡ counted k s 0 (heardIn x) + oneIf (eqb k (countOf Withdrawn))
+withdrawal-counts x c k s n reason e z = counts-by x c k s Withdrawn (n .0 ∷ []) (withdrawal-says x c s n reason e z) ∙ omega arith
 
-pub close-counts : (x : Harness) (c : Lending) (s : ℕ) → inputOf (c .bytes) ≡ input.Close s
-    → nextIn x c .refusal ≡ 0 → dropped s 0 (heardIn (andThen x c)) ≡ dropped s 0 (heardIn x) + length (openBy s (heardIn x))
-close-counts x c s e z = counts-by x c (countOf Dropped) s Dropped (openBy s (heardIn x)) (close-says x c s e z) ∙ omega arith
+pub close-counts : (x : Harness) (c : Lending) (k s : ℕ) → inputOf (c .bytes) ≡ input.Close s
+    → nextIn x c .refusal ≡ 0 → counted k s 0 (heardIn (andThen x c)) ≡ counted k s 0 (heardIn x) + oneIf (eqb k (countOf Dropped)) * length (openBy s (heardIn x))
+close-counts x c k s e z = counts-by x c k s Dropped (openBy s (heardIn x)) (close-says x c s e z)
+
+-- ---- and is entered at its own indication: where a call says one end of n, the still open indication of the newest opening that
+-- bears n meets it, and nothing else of that opening changes
+
+pub ends-in-the-book : (x : Harness) (c : Lending) (s n k : ℕ) (e : End) → telling (saidBy (nextIn x c)) ≡ Went s n e ∷ []
+    → k < length (newest (fates s (heardIn x))) → getD (newest (fates s (heardIn x))) k noIndication ≡ record { number = n; fate = stillOpen }
+    → newest (fates s (heardIn (andThen x c))) ≡ set (newest (fates s (heardIn x))) k (record { number = n; fate = met e })
+unfolding posts
+ends-in-the-book x c s n k e t l h =
+    ap newest (fates-more x c s ∙ sym (posts-telling s (saidBy (nextIn x c)) (fates s (heardIn x))) ∙ ap (λ (ys : List Line). posts s ys (fates s (heardIn x))) t)
+    ∙ ap (λ (b : Bool). newest (pick b (onNewest (mark n e) (fates s (heardIn x))) (fates s (heardIn x)))) (eq-eqb s s refl)
+    ∙ front (fates s (heardIn x))
+    ∙ marked n e (newest (fates s (heardIn x))) k l h (once-on-a-stream x s n)
+  where
+    front : (b : List Opening) → newest (onNewest (mark n e) b) ≡ mark n e (newest b)
+    front [] = refl
+    front (o ∷ b) = refl

@@ -19,7 +19,8 @@ use Rattle.image.specs.Layout.{tableOf, imageOf}
 use Rattle.image.proofs.TableBack.{table-back}
 use Rattle.outcomes.specs.Leaving.{Left, left, refusing, writing, refusalIn, tokenIn, writtenIn, leaving, callOf}
 use Rattle.outcomes.specs.Fresh.{Made, freshOf}
-use Rattle.book.specs.Book.{tallies}
+use Rattle.book.specs.Book.{posts, tallies, grantBy}
+use Rattle.book.proofs.Shades.{posts-append, tallies-append, grant-append, fairs, rooteds}
 use Rattle.promises.specs.Answers.{errorsTold}
 use Rattle.promises.proofs.ErrorAck.{errorsIn}
 use Rattle.promises.specs.Soundness.{Sound}
@@ -27,7 +28,6 @@ use Rattle.promises.specs.History.{Answered, lines, fates, grantedBy, sa
 use Rattle.promises.proofs.Runs.{Call, answeredBy, run, history}
 use Rattle.promises.specs.Harness.{Lending, leftOn, cameBack, imageAfter, heard, Harness, imageIn, tableIn, heardIn, nextIn, andThen}
 use Rattle.promises.proofs.Agreement.{Agrees, agrees, are-bytes, fair-history}
-use Rattle.book.proofs.Shades.{fairs, rooteds}
 use Rattle.promises.proofs.Images.{image-tidy}
 use Rattle.promises.proofs.Lent.{shaped}
 use Rattle.promises.proofs.Refused.{refusal-is-all}
@@ -180,3 +180,12 @@ lines-more x c =
     ap lines (heard-more (freshOf (x .lent) .image) (x .calls) c)
     ∙ lines-append (heardIn x) (nextIn x c ∷ [])
     ∙ ap (λ (ys : List Line). lines (heardIn x) ++ ys) (append-nil (saidBy (nextIn x c)))
+
+pub fates-more : (x : Harness) (c : Lending) (s : ℕ) → fates s (heardIn (andThen x c)) ≡ posts s (saidBy (nextIn x c)) (fates s (heardIn x))
+fates-more x c s = ap (λ (ys : List Line). posts s ys []) (lines-more x c) ∙ posts-append s (lines (heardIn x)) (saidBy (nextIn x c)) []
+
+pub counts-more : (x : Harness) (c : Lending) (k s : ℕ) → tallies k s (lines (heardIn (andThen x c))) [] ≡ tallies k s (saidBy (nextIn x c)) (tallies k s (lines (heardIn x)) [])
+counts-more x c k s = ap (λ (ys : List Line). tallies k s ys []) (lines-more x c) ∙ tallies-append k s (lines (heardIn x)) (saidBy (nextIn x c)) []
+
+pub grant-more : (x : Harness) (c : Lending) (s : ℕ) → grantedBy s (heardIn (andThen x c)) ≡ grantBy s (saidBy (nextIn x c)) (grantedBy s (heardIn x))
+grant-more x c s = ap (λ (ys : List Line). grantBy s ys 0) (lines-more x c) ∙ grant-append s (lines (heardIn x)) (saidBy (nextIn x c)) 0

@@ -3,7 +3,8 @@ pub mod Demand1
 pub mod Demand2
 pub mod Demand3
 pub mod Endings
-pub mod Doors
+pub mod Openings
+pub mod Grants
 -- What they rest on. The sentences on one call of the tables: refusals, errors, OUTSTATE, the next number.
 pub mod Refused
 pub mod ErrorAck

@@ -13,10 +13,11 @@ use Rattle.ledger.specs.Tally.{oneIf}
 use Rattle.ledger.proofs.Tallies.{chosen, picked, within}
 use Rattle.book.specs.declared.End.the-variants.{Withdrawn}
 use Rattle.book.specs.declared.Line.{Line}
-use Rattle.book.specs.declared.Line.the-variants.{Went, Nothing}
+use Rattle.book.specs.declared.Line.the-variants.{Began, Went, Nothing}
+use Rattle.book.specs.Book.{earlier, posts, tallies}
 use Rattle.book.specs.Lines.{parting, openingLines}
 use Rattle.book.proofs.Said.{orderLine, replyLine, lineOf}
-use Rattle.book.proofs.Shades.{openings, openingsIn, openings-append, length-posts}
+use Rattle.book.proofs.Shades.{openings, openingsIn, openings-append, length-posts, earlier-posts}
 use Rattle.book.proofs.Sums.{put-same}
 use Rattle.paper.specs.Base.{Slot, closed, justOpened, Table, fresh, slot, stream, waiting, lowestFree, withSlot, withCalls, withStream, withCounter, withPpa, remembering}
 use Rattle.paper.specs.Events.{eventRow, peerAccepted, peerGone, callWithdrawn, peerReset, resetConfirmed, ringing, rings, heardBy, callArrives}
@@ -39,12 +40,12 @@ use Rattle.paper.specs.declared.State.{State}
 use Rattle.paper.specs.declared.Stream.{Stream}
 use Rattle.paper.specs.declared.Verdict.{Verdict}
 use Rattle.paper.specs.declared.Verdict.the-variants.{Serves, Fails}
-use Rattle.promises.specs.History.{Answered, lines, fates, openBy, opensStream, opensOf, isOpenBy}
+use Rattle.promises.specs.History.{Answered, saidBy, lines, fates, openBy, opensStream, opensOf, isOpenBy}
 use Rattle.promises.proofs.Runs.{Call, answeredBy, run, history}
-use Rattle.promises.specs.Harness.{Harness, tableIn, heardIn}
+use Rattle.promises.specs.Harness.{Lending, Harness, tableIn, heardIn, nextIn, andThen}
 use Rattle.promises.specs.Soundness.{Sound}
 use Rattle.promises.proofs.Agreement.{linesFrom, are-bytes}
-use Rattle.promises.proofs.Harness.{callsOf, history-is, table-is, agreed, fair-heard}
+use Rattle.promises.proofs.Harness.{outcome, asCall, next-is, lines-heard, fates-more, counts-more, callsOf, history-is, table-is, agreed, fair-heard}
 use Rattle.promises.proofs.Letters.{Letter, letter, no-close}
 use Rattle.promises.proofs.Steps.{good, fresh-sound, fresh-at}
 use Rattle.promises.proofs.Whole.{read-step}
@@ -244,7 +245,40 @@ module _ (s : ℕ) where
 
 -- ---- of a harness
 
--- The openings of a stream in what was heard are its served opens, one for one.
+-- Only a served O gives a token.
+pub token-of-an-open : (x : Harness) (c : Lending) (s : ℕ) → nextIn x c .opened ≡ suc s → opensStream s (nextIn x c) ≡ true
+token-of-an-open x c s h =
+    ap (opensStream s) (next-is x c .answer)
+    ∙ door-step (tableIn x) (c .bytes) (agreed x 0 .sound .sixteen) (length (c .room)) .token s
+    ∙ eq-eqb (outcome (tableIn x) c .opened) (suc s) (sym (ap (λ (a : Answered). a .opened) (next-is x c .answer)) ∙ h)
+
+pub opening-says : (x : Harness) (c : Lending) (s : ℕ) → opensStream s (nextIn x c) ≡ true → saidBy (nextIn x c) ≡ Began s ∷ []
+opening-says x c s h =
+    let o : Outcome = outcome (tableIn x) c in
+    let d : Door (tableIn x) (c .bytes) o = door-step (tableIn x) (c .bytes) (agreed x 0 .sound .sixteen) (length (c .room)) in
+    let z : o .opened ≡ suc s = eqb-true (o .opened) (suc s) (sym (d .token s) ∙ sym (ap (opensStream s) (next-is x c .answer)) ∙ h) in
+    lines-heard x c ∙ rw (z, d .alone (omega (arith, z)))
+
+-- It begins a new opening of its stream, with no indication, before those that there were;
+pub opening-begins : (x : Harness) (c : Lending) (s : ℕ) → opensStream s (nextIn x c) ≡ true → fates s (heardIn (andThen x c)) ≡ [] ∷ fates s (heardIn x)
+unfolding posts
+opening-begins x c s h = fates-more x c s ∙ ap (λ (ys : List Line). posts s ys (fates s (heardIn x))) (opening-says x c s h) ∙ rw (eq-eqb s s refl)
+
+-- each count of it begins at 0;
+pub opening-counts-anew : (x : Harness) (c : Lending) (k s : ℕ) → opensStream s (nextIn x c) ≡ true → tallies k s (lines (heardIn (andThen x c))) [] ≡ 0 ∷ tallies k s (lines (heardIn x)) []
+unfolding tallies
+opening-counts-anew x c k s h = counts-more x c k s ∙ ap (λ (ys : List Line). tallies k s ys (tallies k s (lines (heardIn x)) [])) (opening-says x c s h) ∙ rw (eq-eqb s s refl)
+
+-- and any other call leaves the openings before the newest as they are.
+pub earlier-stay : (x : Harness) (c : Lending) (s : ℕ) → opensStream s (nextIn x c) ≡ false → earlier (fates s (heardIn (andThen x c))) ≡ earlier (fates s (heardIn x))
+earlier-stay x c s h =
+    ap earlier (fates-more x c s)
+    ∙ earlier-posts s (saidBy (nextIn x c)) (fates s (heardIn x))
+    (ap (λ (a : Answered). openingsIn s (saidBy a) 0) (next-is x c .answer)
+    ∙ opens-call s (tableIn x) (agreed x 0 .sound) (asCall c) 0
+    ∙ ap (λ (a : Answered). 0 + oneIf (opensStream s a)) (sym (next-is x c .answer)) ∙ ap (λ (b : Bool). 0 + oneIf b) h)
+
+-- So the openings of a stream in what was heard are as many as its served opens.
 pub openings-are-opens : (x : Harness) (s : ℕ) → length (fates s (heardIn x)) ≡ opensOf s (heardIn x)
 openings-are-opens x s =
     let z : openingsIn s (lines (history fresh (callsOf x))) 0 ≡ opensOf s (history fresh (callsOf x)) = omega (arith, opens-run s (callsOf x) fresh fresh-sound 0) in
