@@ -1,9 +1,10 @@
 -- What one call says of connection indications: read from the bytes lent, the stream opened and the bytes written.
 use Prim.Native.Nat.{ℕ, zero, suc}
 use mathlib.Core.List.{List, [], _∷_, _++_, map}
+use mathlib.Core.Bool.{Bool, true}
 use lib.ListN.{length, getD, drop}
 use lib.Dec.{eqb}
-use Rattle.ledger.specs.Choice.{_⇒_∣_}
+use Rattle.ledger.specs.Choice.{both, _⇒_∣_}
 use Rattle.octets.specs.Numbers.{be32At}
 use Rattle.paper.specs.RecordsIn.{inputOf}
 use Rattle.paper.specs.declared.Input.{Input}
@@ -96,3 +97,20 @@ telling (Came i n ∷ ys) = Came i n ∷ telling ys
 telling (Went i n e ∷ ys) = Went i n e ∷ telling ys
 telling (Given i g ∷ ys) = Given i g ∷ telling ys
 telling (Nothing ∷ ys) = telling ys
+
+-- ---- which record lent may say which line
+
+abbrev pub isMessageOf : ℕ → List ℕ → Bool
+isMessageOf i r = both (isMessage (getD r 0 0)) (eqb (getD r 1 0) i)
+
+-- an O that a stream was opened; an I that a call rang in; a message what its stream was granted, and that a call of its stream was
+-- accepted or denied; a W that its own was withdrawn; an X that one of its stream was dropped
+abbrev pub mayBeSaid : List ℕ → Line → Bool
+mayBeSaid r (Began i) = eqb (getD r 0 0) 79
+mayBeSaid r (Came i n) = eqb (getD r 0 0) 73
+mayBeSaid r (Given i g) = isMessageOf i r
+mayBeSaid r (Went i n Accepted) = isMessageOf i r
+mayBeSaid r (Went i n Denied) = isMessageOf i r
+mayBeSaid r (Went i n Withdrawn) = both (eqb (getD r 0 0) 87) (both (eqb (getD r 1 0) i) (eqb (be32At r 2) n))
+mayBeSaid r (Went i n Dropped) = both (eqb (getD r 0 0) 88) (eqb (getD r 1 0) i)
+mayBeSaid r Nothing = true

@@ -5,6 +5,7 @@ pub mod Demand3
 pub mod Endings
 pub mod Openings
 pub mod Grants
+pub mod Orders
 -- What they rest on. The sentences on one call of the tables: refusals, errors, OUTSTATE, the next number.
 pub mod Refused
 pub mod ErrorAck

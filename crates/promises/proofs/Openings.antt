@@ -95,16 +95,16 @@ none-first s = ne-eqb 0 (suc s) (λ e. omega (arith, e))
 
 module _ (t : Table) (r : List ℕ) where
   -- opened by this outcome, and closed
-  abbrev Opens : Outcome → ℕ → Bool
+  abbrev pub Opens : Outcome → ℕ → Bool
   Opens o s = both (eqb (getD r 0 0) 79) (both (eqb (o .refusal) 0) (eqb (o .opened) (suc s)))
 
-  abbrev Closes : Outcome → ℕ → Bool
+  abbrev pub Closes : Outcome → ℕ → Bool
   Closes o s = both (eqb (getD r 0 0) 88) (both (eqb (o .refusal) 0) (eqb (getD r 1 0) s))
 
-  record Door (o : Outcome) : Type 0 where
-    token : (s : ℕ) → Opens o s ≡ eqb (o .opened) (suc s)
-    door : (s : ℕ) → slot (o .table) s .isOpen ≡ either (Opens o s) (both (not (Closes o s)) (slot t s .isOpen))
-    alone : 0 < o .opened → o .records ≡ []
+  pub record Door (o : Outcome) : Type 0 where
+    pub token : (s : ℕ) → Opens o s ≡ eqb (o .opened) (suc s)
+    pub door : (s : ℕ) → slot (o .table) s .isOpen ≡ either (Opens o s) (both (not (Closes o s)) (slot t s .isOpen))
+    pub alone : 0 < o .opened → o .records ≡ []
 
   no-token : (o : Outcome) → o .opened ≡ 0 → (s : ℕ) → Opens o s ≡ eqb (o .opened) (suc s)
   no-token o e s = rw (e, none-first s) (ap (both (eqb (getD r 0 0) 79)) (both-none (eqb (o .refusal) 0)) ∙ both-none (eqb (getD r 0 0) 79))
@@ -174,7 +174,7 @@ module _ (t : Table) (r : List ℕ) where
   door-serve k (input.PeerReset i reason) l = door-open i _ (λ o. door-event (λ e. omega (arith, l, e)) i _ _ _)
   door-serve k (input.ResetConfirmed i) l = door-open i _ (λ o. door-event (λ e. omega (arith, l, e)) i _ _ _)
 
-  door-step : length (t .slots) ≡ 16 → (room : ℕ) → Door (step t r room)
+  pub door-step : length (t .slots) ≡ 16 → (room : ℕ) → Door (step t r room)
   unfolding step
   door-step k room = _ ⟹ no (omega arith) ∣ _ ⟹ no (omega arith) ∣ _ ⟹ no (omega arith) ∣ door-serve k (inputOf r) (letter r)
 

@@ -163,8 +163,8 @@ unfolding inOrder
 sized-order a b i c h g = sized-append (a ++ flushIf b i) c (sized-append a (flushIf b i) h (sized-flush b i)) g
 
 module _ (t : Table) (k : Sound t) where
-  record Whole (o : Outcome) : Type 0 where
-    whole : AllSized (o .records)
+  pub record Whole (o : Outcome) : Type 0 where
+    pub whole : AllSized (o .records)
 
   none : (n : ℕ) → Whole (refused t n)
   none n = record { whole = omega arith }
@@ -230,7 +230,7 @@ module _ (t : Table) (k : Sound t) where
   whole-serve r (input.PeerReset i reason) = whole-open i _ (chosen Whole _ _ _ (λ e. record { whole = sized-order [] true i (up i (reply.ResetInd reason) [] ∷ []) (omega arith) (omega arith, omega arith) }) (λ e. none _))
   whole-serve r (input.ResetConfirmed i) = whole-open i _ (chosen Whole _ _ _ (λ e. record { whole = sized-order [] true i (up i reply.ResetCon [] ∷ []) (omega arith) (omega arith, omega arith) }) (λ e. none _))
 
-  whole-step : (r : List ℕ) (room : ℕ) → Whole (step t r room)
+  pub whole-step : (r : List ℕ) (room : ℕ) → Whole (step t r room)
   unfolding step
   whole-step r room = chosen Whole _ _ _ (λ e. none _) (λ e. chosen Whole _ _ _ (λ e. none _) (λ e. chosen Whole _ _ _ (λ e. none _) (λ e. whole-serve r (inputOf r))))
 

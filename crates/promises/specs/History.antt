@@ -1,12 +1,13 @@
 -- A history: what came back of calls in any sequence, refused ones included. From it alone, never from a table: the fates of the
 -- connection indications, their counts, those still open, the count granted, which streams are open.
 use Prim.Native.Nat.{ℕ, suc}
-use mathlib.Core.Bool.{Bool, not}
+use mathlib.Core.Bool.{Bool, true, not}
 use mathlib.Core.List.{List, [], _∷_, _++_}
 use lib.ListN.{getD}
 use lib.Dec.{eqb}
-use Rattle.ledger.specs.Choice.{both, either}
-use Rattle.ledger.specs.Tally.{oneIf, sumOf}
+use Rattle.ledger.specs.Choice.{pick, both, either}
+use Rattle.octets.specs.Numbers.{be32At}
+use Rattle.ledger.specs.Tally.{oneIf, has, sumOf}
 use Rattle.book.specs.declared.End.the-variants.{Accepted, Denied, Withdrawn, Dropped}
 use Rattle.book.specs.declared.Line.{Line}
 use Rattle.book.specs.Lines.{linesOf}
@@ -36,6 +37,13 @@ fates s h = posts s (lines h) []
 -- the numbers of those still open in its newest opening, the oldest first
 abbrev pub openBy : ℕ → List Answered → List ℕ
 openBy s h = openOf (newest (fates s h))
+
+-- of the record at the start of some bytes: an a names a call that is open on the stream that asked, a d with a number other than 0
+-- one that is open on the stream that it names
+abbrev pub namesOpen : (ℕ → List ℕ) → ℕ → List ℕ → Bool
+namesOpen ofStream from b =
+    pick (eqb (getD b 0 0) 97) (has (be32At b 2) (ofStream from))
+    (pick (eqb (getD b 0 0) 100) (either (eqb (be32At b 2) 0) (has (be32At b 2) (ofStream (getD b 1 0)))) true)
 
 -- the count granted at the bind of its newest opening
 abbrev pub grantedBy : ℕ → List Answered → ℕ
