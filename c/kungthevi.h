@@ -125,7 +125,8 @@ uint32_t kungthevi_record_size(const uint8_t *record, size_t record_len);
 /* The error codes of DL_ERROR_ACK: the number in bytes 8 to 11 of its block. */
 #define KUNGTHEVI_DL_BADADDR      0x01  /* address or SAP not allowed */
 #define KUNGTHEVI_DL_ACCESS       0x02  /* the carrying stream is of another PPA or connectionless */
-#define KUNGTHEVI_DL_OUTSTATE     0x03  /* no row for this message in the stream's state */
+#define KUNGTHEVI_DL_OUTSTATE     0x03  /* no row for this message in the stream's state, or an accept offers a stream
+                                           that is not idle */
 #define KUNGTHEVI_DL_BADCORR      0x05  /* the correlation number is not open here */
 #define KUNGTHEVI_DL_UNSUPPORTED  0x07  /* mode, connection management or type not supported */
 #define KUNGTHEVI_DL_BADPPA       0x08  /* unknown PPA */

@@ -1,15 +1,23 @@
 -- Demand 2's two sentences on answers, of the call for C: on a sound image the errors that the bytes written tell are those of the
 -- records of `step`, and on any other nothing is written.
 use Prim.Native.Nat.{ℕ, _<_}
-use mathlib.Core.Path.{_≡_, refl, ap, subst, _∙_}
+use mathlib.Core.Path.{_≡_, refl, sym, ap, subst, _∙_}
 use mathlib.Core.Bool.{Bool, true, false, not}
 use mathlib.Core.List.{List}
 use lib.ListN.{length}
 use native.Mathlib.Omega.{arith}
 use Rattle.ledger.specs.Choice.{either}
 use Rattle.ledger.specs.Tally.{has}
-use Rattle.ledger.proofs.Tallies.{both-of}
-use Rattle.paper.specs.Base.{stream}
+use borrow.Author.Tests.{ltb-false, not-false}
+use Rattle.ledger.proofs.Tallies.{chosen, both-of}
+use Rattle.paper.specs.Base.{Table, stream}
+use Rattle.paper.specs.Messages.{askedBy}
+use Rattle.paper.specs.RecordsIn.{inputOf, messageIn}
+use Rattle.paper.specs.Refusals.{Outcome, refused}
+use Rattle.paper.specs.Step.{ofOpen, message, step}
+use Rattle.paper.specs.declared.Asked.the-variants.{For}
+use Rattle.paper.specs.declared.Input.the-variants as input
+use Rattle.promises.proofs.Demand1.{refusal-is-the-papers, unsound-gives-sixteen}
 use Rattle.paper.specs.ErrorCodes.{outState}
 use Rattle.paper.specs.Rows.{hasRow}
 use Rattle.paper.specs.declared.Request.{Request}
@@ -20,7 +28,6 @@ use Rattle.promises.specs.Answers.{errorsTold, Complete, offersBusy}
 use Rattle.promises.proofs.ErrorAck.{errorsIn, error-leaves-image}
 use Rattle.promises.specs.Harness.{Lending, leftOn, cameBack}
 use Rattle.promises.specs.History.{Answered}
-use Rattle.promises.proofs.Demand1.{unsound-gives-sixteen}
 use Rattle.promises.proofs.Harness.{outcome, IsStep, one-call}
 use Rattle.promises.proofs.Images.{lent-sound}
 use Rattle.promises.proofs.OutState.{gets-outState}
@@ -32,6 +39,24 @@ unfolding soundImage
 errors-of-the-call img c e =
     let i : IsStep (tableOf img) c (leftOn img c) = subst (λ (l : List ℕ). IsStep (tableOf img) c (leftOn l c)) (image-back img (both-of (tidy img) _ e .0)) (one-call (tableOf img) (lent-sound img e) c) in
     ap (λ (a : Answered). errorsTold (a .written)) (i .answer) ∙ told-step (tableOf img) (lent-sound img e) (c .bytes) (length (c .room))
+
+-- A message of a code that we serve, of its full size, is complete where it is not refused.
+module _ (t : Table) (r : List ℕ) (room i l : ℕ) (q : Request) (e : inputOf r ≡ input.Message i l) (a : askedBy (messageIn r l) ≡ For q) where
+  record Passed (o : Outcome) : Type 0 where
+    passed : o .refusal ≡ 0 → Complete t r room i q
+
+  no : {n : ℕ} → 0 < n → Passed (refused t n)
+  no h = record { passed = λ z. absurd (omega (arith, h, z)) }
+
+  passed-step : Passed (step t r room)
+  unfolding step ofOpen message
+  passed-step = chosen Passed _ _ _ (λ f. no (omega arith)) (λ f. chosen Passed _ _ _ (λ f. no (omega arith)) (λ f. chosen Passed _ _ _ (λ f. no (omega arith))
+      (λ b. rw e (chosen Passed _ _ _ (λ f. no (omega arith)) (λ o. chosen Passed _ _ _ (λ f. no (omega arith)) (λ w. chosen Passed _ _ _ (λ f. no (omega arith))
+      (λ d. record { passed = λ z. record { size = l; read = e; isOpen = not-false _ o; coded = ltb-false _ _ d; whole = ltb-false _ _ w; roomy = ltb-false _ _ b; asks = a } })))))))
+
+pub complete-by : (img : List ℕ) (c : Lending) (i l : ℕ) (q : Request) → soundImage img ≡ true → inputOf (c .bytes) ≡ input.Message i l → askedBy (messageIn (c .bytes) l) ≡ For q
+    → cameBack c (leftOn img c) .refusal ≡ 0 → Complete (tableOf img) (c .bytes) (length (c .room)) i q
+complete-by img c i l q s e a z = passed-step (tableOf img) (c .bytes) (length (c .room)) i l q e a .passed (sym (refusal-is-the-papers img (c .bytes) (c .room) s) ∙ z)
 
 -- "A complete message that we serve gets DL_OUTSTATE exactly if the paper's state table has no row for it, or if an
 -- accept, with no earlier error in the paper's order, offers another stream that isn't idle."

@@ -1,37 +1,39 @@
 -- Demand 3, sentence by sentence. "Start from a fresh table and make calls in any sequence, refused ones included": `x` is any
 -- harness, `heardIn x` what came back of its calls, `imageIn x` the image that it then holds and `tableIn x` the table in that.
-use Prim.Native.Nat.{ℕ, suc, _+_, _≤_}
+use Prim.Native.Nat.{ℕ, suc, _+_, _≤_, _<_}
 use mathlib.Core.Path.{_≡_, refl, sym, ap, _∙_}
-use mathlib.Core.Bool.{Bool, true, false, not}
+use mathlib.Core.Bool.{Bool, true, false, not, false≢true}
 use mathlib.Core.List.{List, [], map, _∷_, _++_}
 use lib.ListN.{length, getD}
 use native.Mathlib.Omega.{arith}
-use borrow.Author.Tests.{eqb-true, ltb-true, eq-eqb, ne-eqb, not-true}
+use borrow.Author.Tests.{eqb-true, ltb-true, ne-eqb, not-true, lt-ltb}
+use Rattle.ledger.proofs.Tallies.{chosen, occ-length, empty, to-both}
+use Rattle.paper.specs.ErrorOrder.{judgeDenial, judgeDisconnect, isWaiting, judgeServed, judge}
+use Rattle.paper.specs.Rows.{performed}
+use Rattle.paper.specs.Step.{answered, step}
+use Rattle.paper.specs.declared.Verdict.{Verdict}
+use Rattle.book.specs.Book.{Opening, openCount, tallies, countIn, openOf, newest, posts}
+use Rattle.promises.proofs.ErrorAck.{row-tells, errorsIn}
+use Rattle.promises.proofs.Named.{row-nine, names-accept, names-denial}
 use Rattle.ledger.specs.Tally.{occ, has, allOf}
-use Rattle.ledger.proofs.Tallies.{empty, to-both}
 use Rattle.paper.specs.Base.{number, isIn, Slot, closed, fresh, slot, stream, waiting, ppaNumbers, Table}
 use Rattle.paper.specs.Correlations.{occurrences}
 use Rattle.paper.specs.ErrorCodes.{badCorr}
-use Rattle.paper.specs.ErrorOrder.{judge}
 use Rattle.paper.specs.RecordsIn.{messageIn, inputOf}
 use Rattle.paper.specs.Refusals.{Outcome, notSound}
 use Rattle.paper.specs.Sound.{sound}
-use Rattle.paper.specs.Step.{step}
 use Rattle.paper.specs.declared.ConnectResponse.{ConnectResponse}
 use Rattle.paper.specs.declared.DisconnectRequest.{DisconnectRequest}
 use Rattle.paper.specs.declared.Request.{Request}
 use Rattle.paper.specs.declared.Request.the-variants as request
-use Rattle.book.specs.Book.{tallies, countIn, openOf, newest, posts}
 use Rattle.book.proofs.Counts.{sums, none-left}
 use Rattle.book.proofs.Sums.{sum-at, sum-two}
 use Rattle.promises.specs.Answers.{Complete, errorsTold}
-use Rattle.promises.proofs.ErrorAck.{errorsIn}
 use Rattle.promises.proofs.OutState.{gets, answers, answer-tells}
 use Rattle.promises.specs.History.{lines, fates, openBy, grantedBy, counted, indicated, accepted, denied, withdrawn, dropped, leftOpenIn, Answered}
 use Rattle.promises.proofs.Runs.{Call, run, history}
 use Rattle.promises.proofs.Agreement.{agrees, are-bytes}
-use Rattle.promises.proofs.Changes.{quiet, in-nine}
-use Rattle.promises.proofs.Named.{names-accept, names-denial}
+use Rattle.promises.proofs.Changes.{quiet}
 use Rattle.promises.proofs.Steps.{good, fresh-sound, Good}
 use Rattle.promises.proofs.Tested.{sound-test}
 use lib.Dec.{eqb}
@@ -83,7 +85,7 @@ one-fate-each x s j =
 pub counted-from-records : (x : Harness) (s k : ℕ) → tallies k s (lines (heardIn x)) [] ≡ map (countIn k) (fates s (heardIn x))
 counted-from-records x s k = agreed x s .counts k
 
--- An opening that has ended has no indication still open.
+-- An opening before the newest has no indication still open (of a newest one that is closed: `closed-has-none`).
 pub none-open-at-close : (x : Harness) (s j : ℕ) → leftOpenIn s (suc j) (heardIn x) ≡ 0
 none-open-at-close x s j = none-left (fates s (heardIn x)) (agreed x s .left) j
 
@@ -93,7 +95,15 @@ none-open-at-close x s j = none-left (fates s (heardIn x)) (agreed x s .left) j
 pub open-in-the-table : (x : Harness) (s : ℕ) → openBy s (heardIn x) ≡ waiting (tableIn x) s
 open-in-the-table x s = agreed x s .now
 
--- Only in state 9 is one open,
+-- As many are open as the count says.
+pub open-count : (x : Harness) (s : ℕ) → leftOpenIn s 0 (heardIn x) ≡ length (openBy s (heardIn x))
+open-count x s = go (fates s (heardIn x))
+  where
+    go : (b : List Opening) → openCount (getD b 0 []) ≡ length (openOf (newest b))
+    go [] = refl
+    go (o ∷ b) = refl
+
+-- Only in state 9 is one open.
 pub none-outside-nine : (x : Harness) (s : ℕ) → isIn 9 (stream (tableIn x) s) ≡ false → openBy s (heardIn x) ≡ []
 none-outside-nine x s e = agreed x s .now ∙ empty (waiting (tableIn x) s) (quiet (ppaNumbers (tableIn x)) (slot (tableIn x) s) (agreed x s .sound .each s) e)
 
@@ -103,32 +113,52 @@ told : (x : Harness) (c : Lending) (s : ℕ) (q : Request) → Complete (tableIn
 told x c s q m = ap (has badCorr) (errors-heard x c) ∙ ap (λ (o : Outcome). has badCorr (errorsIn (o .records))) (answers (tableIn x) (stays-sound x) (c .bytes) (length (c .room)) s q m)
     ∙ answer-tells badCorr (tableIn x) s (messageIn (c .bytes) (m .size)) (judge (tableIn x) s q)
 
--- "The open ones are exactly those that an accept or a denial may name": in state 9 any other number gets BADCORR,
+-- "The open ones are exactly those that an accept or a denial may name": while some are open, any other number gets BADCORR,
+in-nine-by : (x : Harness) (s : ℕ) → 0 < length (openBy s (heardIn x)) → isIn 9 (stream (tableIn x) s) ≡ true
+in-nine-by x s h = agreed x s .sound .each s .nine ∙ lt-ltb 0 (length (waiting (tableIn x) s)) (omega (arith, h, ap length (agreed x s .now)))
+
 pub accept-may-name : (x : Harness) (c : Lending) (s : ℕ) (a : ConnectResponse)
-    → Complete (tableIn x) (c .bytes) (length (c .room)) s (request.ConnectRes a) → isIn 9 (stream (tableIn x) s) ≡ true
+    → Complete (tableIn x) (c .bytes) (length (c .room)) s (request.ConnectRes a) → 0 < length (openBy s (heardIn x))
     → not (has badCorr (errorsTold (nextIn x c .written))) ≡ has (a .correlation .0) (openBy s (heardIn x))
-accept-may-name x c s a m e =
-    ap not (told x c s (request.ConnectRes a) m) ∙ names-accept (tableIn x) s (agreed x s .sound) e a .is ∙ ap (has (a .correlation .0)) (sym (agreed x s .now))
+accept-may-name x c s a m h =
+    ap not (told x c s (request.ConnectRes a) m) ∙ names-accept (tableIn x) s (agreed x s .sound) (in-nine-by x s h) a .is ∙ ap (has (a .correlation .0)) (sym (agreed x s .now))
 
 pub denial-may-name : (x : Harness) (c : Lending) (s : ℕ) (d : DisconnectRequest)
-    → Complete (tableIn x) (c .bytes) (length (c .room)) s (request.Disconnect d) → isIn 9 (stream (tableIn x) s) ≡ true
+    → Complete (tableIn x) (c .bytes) (length (c .room)) s (request.Disconnect d) → 0 < length (openBy s (heardIn x))
     → not (has badCorr (errorsTold (nextIn x c .written))) ≡ has (d .correlation .0) (openBy s (heardIn x))
-denial-may-name x c s d m e =
-    ap not (told x c s (request.Disconnect d) m) ∙ names-denial (tableIn x) s (agreed x s .sound) e d .is ∙ ap (has (d .correlation .0)) (sym (agreed x s .now))
+denial-may-name x c s d m h =
+    ap not (told x c s (request.Disconnect d) m) ∙ names-denial (tableIn x) s (agreed x s .sound) (in-nine-by x s h) d .is ∙ ap (has (d .correlation .0)) (sym (agreed x s .now))
 
--- and in whatever state an accept or a denial of an open one never does.
-in-nine-by : (x : Harness) (s n : ℕ) → has n (openBy s (heardIn x)) ≡ true → isIn 9 (stream (tableIn x) s) ≡ true
-in-nine-by x s n h = eq-eqb _ _ (in-nine (ppaNumbers (tableIn x)) (slot (tableIn x) s) n (agreed x s .sound .each s) (ap (has n) (sym (agreed x s .now)) ∙ h))
+-- an accept of an open one never does,
+some-open : (n : ℕ) (l : List ℕ) → has n l ≡ true → 0 < length l
+some-open n l h = omega (arith, ltb-true 0 (occ n l) h, occ-length n l)
 
 pub open-may-be-accepted : (x : Harness) (c : Lending) (s : ℕ) (a : ConnectResponse)
     → Complete (tableIn x) (c .bytes) (length (c .room)) s (request.ConnectRes a) → has (a .correlation .0) (openBy s (heardIn x)) ≡ true
     → has badCorr (errorsTold (nextIn x c .written)) ≡ false
-open-may-be-accepted x c s a m h = not-true _ (accept-may-name x c s a m (in-nine-by x s (a .correlation .0) h) ∙ h)
+open-may-be-accepted x c s a m h = not-true _ (accept-may-name x c s a m (some-open (a .correlation .0) _ h) ∙ h)
 
-pub open-may-be-denied : (x : Harness) (c : Lending) (s : ℕ) (d : DisconnectRequest)
+-- and a denial of an open one gets no error at all.
+pub open-is-denied : (x : Harness) (c : Lending) (s : ℕ) (d : DisconnectRequest)
     → Complete (tableIn x) (c .bytes) (length (c .room)) s (request.Disconnect d) → has (d .correlation .0) (openBy s (heardIn x)) ≡ true
-    → has badCorr (errorsTold (nextIn x c .written)) ≡ false
-open-may-be-denied x c s d m h = not-true _ (denial-may-name x c s d m (in-nine-by x s (d .correlation .0) h) ∙ h)
+    → errorsTold (nextIn x c .written) ≡ []
+unfolding judge judgeServed judgeDisconnect judgeDenial isWaiting answered performed
+open-is-denied x c s d m h =
+    errors-heard x c ∙ ap (λ (o : Outcome). errorsIn (o .records)) (answers (tableIn x) (stays-sound x) (c .bytes) (length (c .room)) s (request.Disconnect d) m) ∙ served
+  where
+    P : Verdict → Type 0
+    P v = errorsIn (answered (tableIn x) s (messageIn (c .bytes) (m .size)) v .records) ≡ []
+
+    nine : isIn 9 (stream (tableIn x) s) ≡ true
+    nine = in-nine-by x s (some-open (d .correlation .0) (openBy s (heardIn x)) h)
+
+    open-here : has (d .correlation .0) (waiting (tableIn x) s) ≡ true
+    open-here = ap (has (d .correlation .0)) (sym (agreed x s .now)) ∙ h
+
+    served : P (judge (tableIn x) s (request.Disconnect d))
+    served = chosen P _ _ _ (λ f. absurd (false≢true (sym (not-true _ f) ∙ row-nine (tableIn x) s (agreed x s .sound) nine (request.Disconnect d) refl)))
+        (λ f. chosen P _ _ _ (λ g. chosen P _ _ _ (λ w. absurd (false≢true (sym (not-true _ w) ∙ open-here))) (λ w. row-tells (tableIn x) s (messageIn (c .bytes) (m .size)) _))
+        (λ g. absurd (false≢true (sym g ∙ nine))))
 
 -- And no other one is ever named: where a record ends an indication, an `a`, a `d` with a number or a DISCONNECT_IND with one, it
 -- was open on that stream by the records before it.

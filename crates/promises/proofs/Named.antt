@@ -25,7 +25,7 @@ use Rattle.promises.proofs.OutState.{gets}
 use Rattle.promises.specs.Soundness.{Sound}
 
 module _ (t : Table) (s : ℕ) (k : Sound t) (e : isIn 9 (stream t s) ≡ true) where
-  row-nine : (q : Request) → has 9 (statesOf q) ≡ true → hasRow (stream t s) q ≡ true
+  pub row-nine : (q : Request) → has 9 (statesOf q) ≡ true → hasRow (stream t s) q ≡ true
   unfolding hasRow
   row-nine q h =
       let n : number (stream t s) ≡ 9 = eqb-true _ _ e in

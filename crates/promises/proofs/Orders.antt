@@ -51,7 +51,6 @@ use Rattle.book.specs.declared.Line.the-variants.{Went, Nothing}
 use Rattle.book.specs.declared.End.the-variants.{Denied, Withdrawn, Dropped}
 use Rattle.promises.proofs.Letters.{Letter, letter}
 use Rattle.promises.proofs.Openings.{Door, door-step}
-
 use Rattle.paper.specs.declared.State.{State}
 use Rattle.paper.specs.declared.Reply.the-variants as reply
 
