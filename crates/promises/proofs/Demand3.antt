@@ -136,7 +136,7 @@ some-open n l h = omega (arith, ltb-true 0 (occ n l) h, occ-length n l)
 pub open-may-be-accepted : (x : Harness) (c : Lending) (s : ℕ) (a : ConnectResponse)
     → Complete (tableIn x) (c .bytes) (length (c .room)) s (request.ConnectRes a) → has (a .correlation .0) (openBy s (heardIn x)) ≡ true
     → has badCorr (errorsTold (nextIn x c .written)) ≡ false
-open-may-be-accepted x c s a m h = not-true _ (accept-may-name x c s a m (some-open (a .correlation .0) _ h) ∙ h)
+open-may-be-accepted x c s a m h = not-true _ (accept-may-name x c s a m (some-open (a .correlation .0) (openBy s (heardIn x)) h) ∙ h)
 
 -- and a denial of an open one gets no error at all.
 pub open-is-denied : (x : Harness) (c : Lending) (s : ℕ) (d : DisconnectRequest)
