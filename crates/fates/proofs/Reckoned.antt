@@ -15,7 +15,7 @@ use Rattle.register.proofs.Kept.{fine-front, kept-openings, kept-counts, kept-o
 use Rattle.register.proofs.Places.{asked}
 use Rattle.register.proofs.Whole.{over-same}
 use Rattle.report.specs.Report.{spaced, numbers, wordOf, wordCall, wordOpening, wordTotal, callLine, openingLine, openOnAll, totalLine}
-use Rattle.promises.specs.History.{Answered, history, lines, fates, indicated, accepted, denied, withdrawn, dropped}
+use Rattle.promises.specs.History.{Answered, lines, fates, indicated, accepted, denied, withdrawn, dropped}
 use Rattle.promises.specs.Harness.{Harness, heardIn}
 use Rattle.promises.proofs.Harness.{agreed, fair-heard}
 use Rattle.fates.specs.Told.{Told}

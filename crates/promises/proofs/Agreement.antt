@@ -31,7 +31,7 @@ linesFrom t c = linesOf (c .bytes) (step t (c .bytes) (c .room) .opened) (answer
 seen : (t : Table) → Sound t → (c : Call) (s : ℕ) → Seen s t (linesFrom t c) (step t (c .bytes) (c .room) .table)
 seen t k c s = subst (λ (ys : List Line). Seen s t ys (step t (c .bytes) (c .room) .table)) (sym (read-step t k (c .bytes) (c .room))) (good t k (c .bytes) (are-bytes c) (c .room) .seen s)
 
-kept : (t : Table) → Sound t → (c : Call) → Sound (step t (c .bytes) (c .room) .table)
+pub kept : (t : Table) → Sound t → (c : Call) → Sound (step t (c .bytes) (c .room) .table)
 kept t k c = good t k (c .bytes) (are-bytes c) (c .room) .kept
 
 -- of stream s: a table, its fates b so far, its counts and its last grant

@@ -43,7 +43,7 @@ use Rattle.book.proofs.Said.{lineOf, said}
 use Rattle.book.proofs.Sums.{sum-at}
 use Rattle.promises.specs.Answers.{errorsTold, Complete}
 use Rattle.promises.proofs.ErrorAck.{errorsIn}
-use Rattle.promises.specs.History.{saidBy, lines, openBy, counted, fates}
+use Rattle.promises.specs.History.{saidBy, lines, fates, openBy, counted, accepted, denied, withdrawn, dropped}
 use Rattle.promises.specs.Harness.{Lending, Harness, tableIn, heardIn, nextIn, andThen}
 use Rattle.promises.specs.Soundness.{Sound}
 use Rattle.promises.proofs.Changes.{quiet}
@@ -219,6 +219,23 @@ withdrawal-counts x c k s n reason e z = counts-by x c k s Withdrawn (n .0 ∷ [
 pub close-counts : (x : Harness) (c : Lending) (k s : ℕ) → inputOf (c .bytes) ≡ input.Close s
     → nextIn x c .refusal ≡ 0 → counted k s 0 (heardIn (andThen x c)) ≡ counted k s 0 (heardIn x) + oneIf (eqb k (countOf Dropped)) * length (openBy s (heardIn x))
 close-counts x c k s e z = counts-by x c k s Dropped (openBy s (heardIn x)) (close-says x c s e z)
+
+-- by name:
+pub accept-raises : (x : Harness) (c : Lending) (s : ℕ) (a : ConnectResponse) → Complete (tableIn x) (c .bytes) (length (c .room)) s (request.ConnectRes a)
+    → errorsTold (nextIn x c .written) ≡ [] → accepted s 0 (heardIn (andThen x c)) ≡ accepted s 0 (heardIn x) + 1
+accept-raises x c = accept-counts x c (countOf Accepted)
+
+pub denial-raises : (x : Harness) (c : Lending) (s : ℕ) (d : DisconnectRequest) → Complete (tableIn x) (c .bytes) (length (c .room)) s (request.Disconnect d) → 0 < d .correlation .0
+    → errorsTold (nextIn x c .written) ≡ [] → denied s 0 (heardIn (andThen x c)) ≡ denied s 0 (heardIn x) + 1
+denial-raises x c = denial-counts x c (countOf Denied)
+
+pub withdrawal-raises : (x : Harness) (c : Lending) (s : ℕ) (n : Correlation) (reason : ℕ) → inputOf (c .bytes) ≡ input.CallWithdrawn s n reason
+    → nextIn x c .refusal ≡ 0 → withdrawn s 0 (heardIn (andThen x c)) ≡ withdrawn s 0 (heardIn x) + 1
+withdrawal-raises x c = withdrawal-counts x c (countOf Withdrawn)
+
+pub close-raises : (x : Harness) (c : Lending) (s : ℕ) → inputOf (c .bytes) ≡ input.Close s
+    → nextIn x c .refusal ≡ 0 → dropped s 0 (heardIn (andThen x c)) ≡ dropped s 0 (heardIn x) + length (openBy s (heardIn x))
+close-raises x c s e z = close-counts x c (countOf Dropped) s e z ∙ omega arith
 
 -- ---- and is entered at its own indication: where a call says one end of n, the still open indication of the newest opening that
 -- bears n meets it, and nothing else of that opening changes

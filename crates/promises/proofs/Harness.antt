@@ -27,7 +27,7 @@ use Rattle.promises.specs.Soundness.{Sound}
 use Rattle.promises.specs.History.{Answered, lines, fates, grantedBy, saidBy}
 use Rattle.promises.proofs.Runs.{Call, answeredBy, run, history}
 use Rattle.promises.specs.Harness.{Lending, leftOn, cameBack, imageAfter, heard, Harness, imageIn, tableIn, heardIn, nextIn, andThen}
-use Rattle.promises.proofs.Agreement.{Agrees, agrees, are-bytes, fair-history}
+use Rattle.promises.proofs.Agreement.{Agrees, agrees, are-bytes, kept, fair-history}
 use Rattle.promises.proofs.Images.{image-tidy}
 use Rattle.promises.proofs.Lent.{shaped}
 use Rattle.promises.proofs.Refused.{refusal-is-all}
@@ -94,13 +94,10 @@ one-call t k c = subst (IsStep t c) (sym (call-is-step t k (c .bytes) (c .room))
 
 -- ---- calls in turn
 
-kept : (t : Table) → Sound t → (c : Lending) → Sound (outcome t c .table)
-kept t k c = good t k (c .bytes) (are-bytes (asCall c)) (length (c .room)) .kept
-
 pub images-are-the-run : (t : Table) → Sound t → (cs : List Lending) → imageAfter (imageOf t) cs ≡ imageOf (run t (map asCall cs))
 unfolding imageAfter run
 images-are-the-run t k [] = refl
-images-are-the-run t k (c ∷ cs) = ap (λ (img : List ℕ). imageAfter img cs) (one-call t k c .image) ∙ images-are-the-run (outcome t c .table) (kept t k c) cs
+images-are-the-run t k (c ∷ cs) = ap (λ (img : List ℕ). imageAfter img cs) (one-call t k c .image) ∙ images-are-the-run (outcome t c .table) (kept t k (asCall c)) cs
 
 pub heard-is-history : (t : Table) → Sound t → (cs : List Lending) → heard (imageOf t) cs ≡ history t (map asCall cs)
 unfolding heard history
@@ -108,7 +105,7 @@ heard-is-history t k [] = refl
 heard-is-history t k (c ∷ cs) =
     ap (λ (a : Answered). a ∷ heard (leftOn (imageOf t) c .image) cs) (one-call t k c .answer)
     ∙ ap (λ (img : List ℕ). answeredBy (asCall c) (outcome t c) ∷ heard img cs) (one-call t k c .image)
-    ∙ ap (λ (h : List Answered). answeredBy (asCall c) (outcome t c) ∷ h) (heard-is-history (outcome t c .table) (kept t k c) cs)
+    ∙ ap (λ (h : List Answered). answeredBy (asCall c) (outcome t c) ∷ h) (heard-is-history (outcome t c .table) (kept t k (asCall c)) cs)
 
 -- ---- of a harness
 

@@ -44,10 +44,10 @@ use Rattle.promises.specs.History.{Answered, saidBy, lines, fates, openB
 use Rattle.promises.proofs.Runs.{Call, answeredBy, run, history}
 use Rattle.promises.specs.Harness.{Lending, Harness, tableIn, heardIn, nextIn, andThen}
 use Rattle.promises.specs.Soundness.{Sound}
-use Rattle.promises.proofs.Agreement.{linesFrom, are-bytes}
+use Rattle.promises.proofs.Agreement.{linesFrom, kept}
 use Rattle.promises.proofs.Harness.{outcome, asCall, next-is, lines-heard, fates-more, counts-more, callsOf, history-is, table-is, agreed, fair-heard}
 use Rattle.promises.proofs.Letters.{Letter, letter, no-close}
-use Rattle.promises.proofs.Steps.{good, fresh-sound, fresh-at}
+use Rattle.promises.proofs.Steps.{fresh-sound, fresh-at}
 use Rattle.promises.proofs.Whole.{read-step}
 
 -- ---- what changes a stream, but does not open or close it
@@ -232,7 +232,7 @@ module _ (s : ℕ) where
       let u : Table = step t (c .bytes) (c .room) .table in
       openings-append s (linesFrom t c) (lines (history u cs)) k
       ∙ ap (openingsIn s (lines (history u cs))) (opens-call t z c k)
-      ∙ opens-run cs u (good t z (c .bytes) (are-bytes c) (c .room) .kept) _
+      ∙ opens-run cs u (kept t z c) _
       ∙ omega arith
 
   open-run : (cs : List Call) (t : Table) → Sound t → isOpenBy s (history t cs) (slot t s .isOpen) ≡ slot (run t cs) s .isOpen
@@ -241,7 +241,7 @@ module _ (s : ℕ) where
   open-run (c ∷ cs) t z =
       let u : Table = step t (c .bytes) (c .room) .table in
       ap (isOpenBy s (history u cs)) (sym (door-step t (c .bytes) (z .sixteen) (c .room) .door s))
-      ∙ open-run cs u (good t z (c .bytes) (are-bytes c) (c .room) .kept)
+      ∙ open-run cs u (kept t z c)
 
 -- ---- of a harness
 
