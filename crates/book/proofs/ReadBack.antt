@@ -160,16 +160,20 @@ lines-said q (r ∷ rs) = ap (λ (y : Line). y ∷ map (lineAt q) (starts rs)) (
 -- ---- which record says which end
 
 -- An a for a message says that the asker's was accepted,
-pub accept-line : (i l c : ℕ) (n : Correlation) (rest : List ℕ) → lineAt (input.Message i l) (bytesOf (order (lineOrder.Accept c n) []) ++ rest) ≡ Went i (n .0) Accepted
+pub accept-line : (i l c : ℕ) (n : Correlation) (rest : List ℕ)
+    → lineAt (input.Message i l) (bytesOf (order (lineOrder.Accept c n) []) ++ rest) ≡ Went i (n .0) Accepted
 accept-line i l c n rest = order-said (input.Message i l) (lineOrder.Accept c n) [] rest
 
 -- a d with a number other than 0 for a message that it was denied, for a close that it was dropped,
-pub denial-line : (i l j : ℕ) (n : Correlation) (reason : ℕ) (rest : List ℕ) → eqb (n .0) 0 ≡ false → lineAt (input.Message i l) (bytesOf (order (lineOrder.Disconnect j n reason) []) ++ rest) ≡ Went j (n .0) Denied
+pub denial-line : (i l j : ℕ) (n : Correlation) (reason : ℕ) (rest : List ℕ) → eqb (n .0) 0 ≡ false
+    → lineAt (input.Message i l) (bytesOf (order (lineOrder.Disconnect j n reason) []) ++ rest) ≡ Went j (n .0) Denied
 denial-line i l j n reason rest h = order-said (input.Message i l) (lineOrder.Disconnect j n reason) [] rest ∙ ap (λ (b : Bool). pick b Nothing (Went j (n .0) Denied)) h
 
-pub drop-line : (i j : ℕ) (n : Correlation) (reason : ℕ) (rest : List ℕ) → eqb (n .0) 0 ≡ false → lineAt (input.Close i) (bytesOf (order (lineOrder.Disconnect j n reason) []) ++ rest) ≡ Went j (n .0) Dropped
+pub drop-line : (i j : ℕ) (n : Correlation) (reason : ℕ) (rest : List ℕ) → eqb (n .0) 0 ≡ false
+    → lineAt (input.Close i) (bytesOf (order (lineOrder.Disconnect j n reason) []) ++ rest) ≡ Went j (n .0) Dropped
 drop-line i j n reason rest h = order-said (input.Close i) (lineOrder.Disconnect j n reason) [] rest ∙ ap (λ (b : Bool). pick b Nothing (Went j (n .0) Dropped)) h
 
 -- and a DISCONNECT_IND with one that it was withdrawn.
-pub withdrawal-line : (q : Input) (i reason : ℕ) (n : Correlation) (rest : List ℕ) → eqb (n .0) 0 ≡ false → lineAt q (bytesOf (up i (reply.DisconnectInd reason n) []) ++ rest) ≡ Went i (n .0) Withdrawn
+pub withdrawal-line : (q : Input) (i reason : ℕ) (n : Correlation) (rest : List ℕ) → eqb (n .0) 0 ≡ false
+    → lineAt q (bytesOf (up i (reply.DisconnectInd reason n) []) ++ rest) ≡ Went i (n .0) Withdrawn
 withdrawal-line q i reason n rest h = reply-said q i (reply.DisconnectInd reason n) [] rest ∙ ap (λ (b : Bool). pick b Nothing (Went i (n .0) Withdrawn)) h

@@ -42,7 +42,8 @@ refusal-is-the-papers img r room e =
 
 -- Whatever is lent: a call with a refusal in its number leaves that number and nothing else, no bytes written, no token, image and
 -- room as they stood.
-pub refused-leaves-all : (img r room : List ℕ) → 0 < refusalIn (callOf img r room .number) → callOf img r room ≡ left (refusing (refusalIn (callOf img r room .number))) img room
+pub refused-leaves-all : (img r room : List ℕ) → 0 < refusalIn (callOf img r room .number)
+    → callOf img r room ≡ left (refusing (refusalIn (callOf img r room .number))) img room
 unfolding callOf leaving
 refused-leaves-all img r room = go (soundImage img) refl
   where

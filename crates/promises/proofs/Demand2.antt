@@ -34,7 +34,8 @@ use Rattle.promises.proofs.OutState.{gets-outState}
 use Rattle.promises.proofs.Tested.{sound-test}
 use Rattle.promises.proofs.Whole.{told-step}
 
-errors-of-the-call : (img : List ℕ) (c : Lending) → soundImage img ≡ true → errorsTold (cameBack c (leftOn img c) .written) ≡ errorsIn (outcome (tableOf img) c .records)
+errors-of-the-call : (img : List ℕ) (c : Lending) → soundImage img ≡ true
+    → errorsTold (cameBack c (leftOn img c) .written) ≡ errorsIn (outcome (tableOf img) c .records)
 unfolding soundImage
 errors-of-the-call img c e =
     let i : IsStep (tableOf img) c (leftOn img c) = subst (λ (l : List ℕ). IsStep (tableOf img) c (leftOn l c)) (image-back img (both-of (tidy img) _ e .0)) (one-call (tableOf img) (lent-sound img e) c) in
@@ -54,7 +55,8 @@ module _ (t : Table) (r : List ℕ) (room i l : ℕ) (q : Request) (e : inputOf 
       (λ b. rw e (chosen Passed _ _ _ (λ f. no (omega arith)) (λ o. chosen Passed _ _ _ (λ f. no (omega arith)) (λ w. chosen Passed _ _ _ (λ f. no (omega arith))
       (λ d. record { passed = λ z. record { size = l; read = e; isOpen = not-false _ o; coded = ltb-false _ _ d; whole = ltb-false _ _ w; roomy = ltb-false _ _ b; asks = a } })))))))
 
-pub complete-by : (img : List ℕ) (c : Lending) (i l : ℕ) (q : Request) → soundImage img ≡ true → inputOf (c .bytes) ≡ input.Message i l → askedBy (messageIn (c .bytes) l) ≡ For q
+pub complete-by : (img : List ℕ) (c : Lending) (i l : ℕ) (q : Request) → soundImage img ≡ true → inputOf (c .bytes) ≡ input.Message i l
+    → askedBy (messageIn (c .bytes) l) ≡ For q
     → cameBack c (leftOn img c) .refusal ≡ 0 → Complete (tableOf img) (c .bytes) (length (c .room)) i q
 complete-by img c i l q s e a z = passed-step (tableOf img) (c .bytes) (length (c .room)) i l q e a .passed (sym (refusal-is-the-papers img (c .bytes) (c .room) s) ∙ z)
 

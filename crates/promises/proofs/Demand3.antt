@@ -28,7 +28,6 @@ use Rattle.paper.specs.declared.Request.{Request}
 use Rattle.paper.specs.declared.Request.the-variants as request
 use Rattle.book.proofs.Counts.{sums, none-left}
 use Rattle.book.proofs.Sums.{sum-at, sum-two}
-use Rattle.promises.specs.Answers.{Complete, errorsTold}
 use Rattle.promises.proofs.OutState.{gets, answers, answer-tells}
 use Rattle.promises.specs.History.{lines, fates, openBy, grantedBy, counted, indicated, accepted, denied, withdrawn, dropped, leftOpenIn, Answered}
 use Rattle.promises.proofs.Runs.{Call, run, history}
@@ -42,7 +41,7 @@ use Rattle.book.specs.declared.End.{End}
 use Rattle.book.specs.declared.Line.{Line}
 use Rattle.book.specs.declared.Line.the-variants.{Went}
 use Rattle.book.proofs.Shades.{fairs, open-posts, went-open}
-use Rattle.promises.specs.Harness.{Lending, Harness, imageIn, tableIn, heardIn, nextIn}
+use Rattle.promises.specs.Harness.{Lending, Harness, imageIn, tableIn, heardIn, CompleteIn, errorsHeard}
 use Rattle.promises.specs.Soundness.{Sound}
 use Rattle.promises.proofs.Harness.{fair-heard, callsOf, image-is, history-is, agreed, errors-heard}
 use Rattle.promises.proofs.Images.{image-sound}
@@ -108,8 +107,8 @@ pub none-outside-nine : (x : Harness) (s : ℕ) → isIn 9 (stream (tableIn x) s
 none-outside-nine x s e = agreed x s .now ∙ empty (waiting (tableIn x) s) (quiet (ppaNumbers (tableIn x)) (slot (tableIn x) s) (agreed x s .sound .each s) e)
 
 -- BADCORR is told where the order of errors says so.
-told : (x : Harness) (c : Lending) (s : ℕ) (q : Request) → Complete (tableIn x) (c .bytes) (length (c .room)) s q
-    → has badCorr (errorsTold (nextIn x c .written)) ≡ gets badCorr (judge (tableIn x) s q)
+told : (x : Harness) (c : Lending) (s : ℕ) (q : Request) → CompleteIn x c s q
+    → has badCorr (errorsHeard x c) ≡ gets badCorr (judge (tableIn x) s q)
 told x c s q m = ap (has badCorr) (errors-heard x c) ∙ ap (λ (o : Outcome). has badCorr (errorsIn (o .records))) (answers (tableIn x) (stays-sound x) (c .bytes) (length (c .room)) s q m)
     ∙ answer-tells badCorr (tableIn x) s (messageIn (c .bytes) (m .size)) (judge (tableIn x) s q)
 
@@ -118,14 +117,14 @@ in-nine-by : (x : Harness) (s : ℕ) → 0 < length (openBy s (heardIn x)) → i
 in-nine-by x s h = agreed x s .sound .each s .nine ∙ lt-ltb 0 (length (waiting (tableIn x) s)) (omega (arith, h, ap length (agreed x s .now)))
 
 pub accept-may-name : (x : Harness) (c : Lending) (s : ℕ) (a : ConnectResponse)
-    → Complete (tableIn x) (c .bytes) (length (c .room)) s (request.ConnectRes a) → 0 < length (openBy s (heardIn x))
-    → not (has badCorr (errorsTold (nextIn x c .written))) ≡ has (a .correlation .0) (openBy s (heardIn x))
+    → CompleteIn x c s (request.ConnectRes a) → 0 < length (openBy s (heardIn x))
+    → not (has badCorr (errorsHeard x c)) ≡ has (a .correlation .0) (openBy s (heardIn x))
 accept-may-name x c s a m h =
     ap not (told x c s (request.ConnectRes a) m) ∙ names-accept (tableIn x) s (agreed x s .sound) (in-nine-by x s h) a .is ∙ ap (has (a .correlation .0)) (sym (agreed x s .now))
 
 pub denial-may-name : (x : Harness) (c : Lending) (s : ℕ) (d : DisconnectRequest)
-    → Complete (tableIn x) (c .bytes) (length (c .room)) s (request.Disconnect d) → 0 < length (openBy s (heardIn x))
-    → not (has badCorr (errorsTold (nextIn x c .written))) ≡ has (d .correlation .0) (openBy s (heardIn x))
+    → CompleteIn x c s (request.Disconnect d) → 0 < length (openBy s (heardIn x))
+    → not (has badCorr (errorsHeard x c)) ≡ has (d .correlation .0) (openBy s (heardIn x))
 denial-may-name x c s d m h =
     ap not (told x c s (request.Disconnect d) m) ∙ names-denial (tableIn x) s (agreed x s .sound) (in-nine-by x s h) d .is ∙ ap (has (d .correlation .0)) (sym (agreed x s .now))
 
@@ -134,14 +133,14 @@ some-open : (n : ℕ) (l : List ℕ) → has n l ≡ true → 0 < length l
 some-open n l h = omega (arith, ltb-true 0 (occ n l) h, occ-length n l)
 
 pub open-may-be-accepted : (x : Harness) (c : Lending) (s : ℕ) (a : ConnectResponse)
-    → Complete (tableIn x) (c .bytes) (length (c .room)) s (request.ConnectRes a) → has (a .correlation .0) (openBy s (heardIn x)) ≡ true
-    → has badCorr (errorsTold (nextIn x c .written)) ≡ false
+    → CompleteIn x c s (request.ConnectRes a) → has (a .correlation .0) (openBy s (heardIn x)) ≡ true
+    → has badCorr (errorsHeard x c) ≡ false
 open-may-be-accepted x c s a m h = not-true _ (accept-may-name x c s a m (some-open (a .correlation .0) (openBy s (heardIn x)) h) ∙ h)
 
 -- and a denial of an open one gets no error at all.
 pub open-is-denied : (x : Harness) (c : Lending) (s : ℕ) (d : DisconnectRequest)
-    → Complete (tableIn x) (c .bytes) (length (c .room)) s (request.Disconnect d) → has (d .correlation .0) (openBy s (heardIn x)) ≡ true
-    → errorsTold (nextIn x c .written) ≡ []
+    → CompleteIn x c s (request.Disconnect d) → has (d .correlation .0) (openBy s (heardIn x)) ≡ true
+    → errorsHeard x c ≡ []
 unfolding judge judgeServed judgeDisconnect judgeDenial isWaiting answered performed
 open-is-denied x c s d m h =
     errors-heard x c ∙ ap (λ (o : Outcome). errorsIn (o .records)) (answers (tableIn x) (stays-sound x) (c .bytes) (length (c .room)) s (request.Disconnect d) m) ∙ served

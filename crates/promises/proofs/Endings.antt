@@ -41,10 +41,9 @@ use Rattle.book.specs.Book.{countOf, tallies, stillOpen, met, Opening, noIndica
 use Rattle.book.proofs.Counts.{ends-counted}
 use Rattle.book.proofs.Said.{lineOf, said}
 use Rattle.book.proofs.Sums.{sum-at}
-use Rattle.promises.specs.Answers.{errorsTold, Complete}
 use Rattle.promises.proofs.ErrorAck.{errorsIn}
 use Rattle.promises.specs.History.{saidBy, lines, fates, openBy, counted, accepted, denied, withdrawn, dropped}
-use Rattle.promises.specs.Harness.{Lending, Harness, tableIn, heardIn, nextIn, andThen}
+use Rattle.promises.specs.Harness.{Lending, Harness, tableIn, heardIn, nextIn, andThen, CompleteIn, errorsHeard}
 use Rattle.promises.specs.Soundness.{Sound}
 use Rattle.promises.proofs.Changes.{quiet}
 use Rattle.promises.proofs.Harness.{outcome, agreed, errors-heard, lines-heard, refusal-heard, fates-more, counts-more}
@@ -98,8 +97,8 @@ module _ (t : Table) (i l : ℕ) where
       Denies = Tells t i l (Went i (d .correlation .0) Denied ∷ [])
 
 -- what a complete message says where no error is told
-pub message-says : (x : Harness) (c : Lending) (s : ℕ) (q : Request) (ys : List Line) → (m : Complete (tableIn x) (c .bytes) (length (c .room)) s q)
-    → Tells (tableIn x) s (m .size) ys (judge (tableIn x) s q) → errorsTold (nextIn x c .written) ≡ [] → telling (saidBy (nextIn x c)) ≡ ys
+pub message-says : (x : Harness) (c : Lending) (s : ℕ) (q : Request) (ys : List Line) → (m : CompleteIn x c s q)
+    → Tells (tableIn x) s (m .size) ys (judge (tableIn x) s q) → errorsHeard x c ≡ [] → telling (saidBy (nextIn x c)) ≡ ys
 message-says x c s q ys m h e =
     let o : outcome (tableIn x) c ≡ answered (tableIn x) s (messageIn (c .bytes) (m .size)) (judge (tableIn x) s q)
     = answers (tableIn x) (sound-test (tableIn x) (agreed x s .sound)) (c .bytes) (length (c .room)) s q m in
@@ -147,14 +146,16 @@ module _ (t : Table) (k : Sound t) (i : ℕ) where
       Drops : List Record → Type 0
       Drops rs = telling (map (lineOf (input.Close i)) rs) ≡ map (λ (n : ℕ). Went i n Dropped) (waiting t i)
 
-input-says : (x : Harness) (c : Lending) (q : Input) (ys : List Line) → inputOf (c .bytes) ≡ q → Says q ys (serve (tableIn x) (c .bytes) q) → nextIn x c .refusal ≡ 0 → telling (saidBy (nextIn x c)) ≡ ys
+input-says : (x : Harness) (c : Lending) (q : Input) (ys : List Line) → inputOf (c .bytes) ≡ q → Says q ys (serve (tableIn x) (c .bytes) q)
+    → nextIn x c .refusal ≡ 0 → telling (saidBy (nextIn x c)) ≡ ys
 input-says x c q ys e h z =
     ap telling (lines-heard x c ∙ ap (λ (p : Input). said p (outcome (tableIn x) c .opened) (outcome (tableIn x) c .records)) e)
     ∙ says-step (tableIn x) (c .bytes) (length (c .room)) q ys e h .says (sym (refusal-heard x c) ∙ z)
 
 -- ---- the laws: what is heard of one call more
 
-says-arrives : (t : Table) (p : PpaNumber) (sap : ℕ) (called calling : List ℕ) → Says (input.CallArrives p sap) (Came (listener t p sap) (nextNumber t) ∷ []) (callArrives t p sap called calling)
+says-arrives : (t : Table) (p : PpaNumber) (sap : ℕ) (called calling : List ℕ)
+    → Says (input.CallArrives p sap) (Came (listener t p sap) (nextNumber t) ∷ []) (callArrives t p sap called calling)
 unfolding callArrives heardBy rings
 says-arrives t p sap called calling = chosen P _ _ _ (λ e. refuses _ _ t _ (omega arith)) (λ e. chosen P _ _ _ (λ e. refuses _ _ t _ (omega arith)) (λ e. chosen P _ _ _ (λ e. refuses _ _ t _ (omega arith)) (λ e. chosen P _ _ _ (λ e. refuses _ _ t _ (omega arith))
     (λ e. record { says = λ z. refl }))))
@@ -175,13 +176,13 @@ refused-says-nothing x c h =
     lines-heard x c ∙ ap (λ (o : Outcome). said (inputOf (c .bytes)) (o .opened) (o .records)) o
 
 -- A served accept of number n says 'accepted' of n and nothing else,
-pub accept-says : (x : Harness) (c : Lending) (s : ℕ) (a : ConnectResponse) → Complete (tableIn x) (c .bytes) (length (c .room)) s (request.ConnectRes a)
-    → errorsTold (nextIn x c .written) ≡ [] → telling (saidBy (nextIn x c)) ≡ Went s (a .correlation .0) Accepted ∷ []
+pub accept-says : (x : Harness) (c : Lending) (s : ℕ) (a : ConnectResponse) → CompleteIn x c s (request.ConnectRes a)
+    → errorsHeard x c ≡ [] → telling (saidBy (nextIn x c)) ≡ Went s (a .correlation .0) Accepted ∷ []
 accept-says x c s a m = message-says x c s (request.ConnectRes a) _ m (tells-accept (tableIn x) s (m .size) a)
 
 -- a denial of n 'denied' of n,
-pub denial-says : (x : Harness) (c : Lending) (s : ℕ) (d : DisconnectRequest) → Complete (tableIn x) (c .bytes) (length (c .room)) s (request.Disconnect d) → 0 < d .correlation .0
-    → errorsTold (nextIn x c .written) ≡ [] → telling (saidBy (nextIn x c)) ≡ Went s (d .correlation .0) Denied ∷ []
+pub denial-says : (x : Harness) (c : Lending) (s : ℕ) (d : DisconnectRequest) → CompleteIn x c s (request.Disconnect d) → 0 < d .correlation .0
+    → errorsHeard x c ≡ [] → telling (saidBy (nextIn x c)) ≡ Went s (d .correlation .0) Denied ∷ []
 denial-says x c s d m h = message-says x c s (request.Disconnect d) _ m (tells-denial (tableIn x) s (m .size) d h)
 
 -- a W of n 'withdrawn' of n,
@@ -204,12 +205,12 @@ counts-by x c k s e w h =
     ap (λ (l : List ℕ). getD l 0 0) (counts-more x c k s)
     ∙ ends-counted k s e w (saidBy (nextIn x c)) (tallies k s (lines (heardIn x)) []) h
 
-pub accept-counts : (x : Harness) (c : Lending) (k s : ℕ) (a : ConnectResponse) → Complete (tableIn x) (c .bytes) (length (c .room)) s (request.ConnectRes a)
-    → errorsTold (nextIn x c .written) ≡ [] → counted k s 0 (heardIn (andThen x c)) ≡ counted k s 0 (heardIn x) + oneIf (eqb k (countOf Accepted))
+pub accept-counts : (x : Harness) (c : Lending) (k s : ℕ) (a : ConnectResponse) → CompleteIn x c s (request.ConnectRes a)
+    → errorsHeard x c ≡ [] → counted k s 0 (heardIn (andThen x c)) ≡ counted k s 0 (heardIn x) + oneIf (eqb k (countOf Accepted))
 accept-counts x c k s a m e = counts-by x c k s Accepted (a .correlation .0 ∷ []) (accept-says x c s a m e) ∙ omega arith
 
-pub denial-counts : (x : Harness) (c : Lending) (k s : ℕ) (d : DisconnectRequest) → Complete (tableIn x) (c .bytes) (length (c .room)) s (request.Disconnect d) → 0 < d .correlation .0
-    → errorsTold (nextIn x c .written) ≡ [] → counted k s 0 (heardIn (andThen x c)) ≡ counted k s 0 (heardIn x) + oneIf (eqb k (countOf Denied))
+pub denial-counts : (x : Harness) (c : Lending) (k s : ℕ) (d : DisconnectRequest) → CompleteIn x c s (request.Disconnect d) → 0 < d .correlation .0
+    → errorsHeard x c ≡ [] → counted k s 0 (heardIn (andThen x c)) ≡ counted k s 0 (heardIn x) + oneIf (eqb k (countOf Denied))
 denial-counts x c k s d m h e = counts-by x c k s Denied (d .correlation .0 ∷ []) (denial-says x c s d m h e) ∙ omega arith
 
 pub withdrawal-counts : (x : Harness) (c : Lending) (k s : ℕ) (n : Correlation) (reason : ℕ) → inputOf (c .bytes) ≡ input.CallWithdrawn s n reason
@@ -221,12 +222,12 @@ pub close-counts : (x : Harness) (c : Lending) (k s : ℕ) → inputOf (c .bytes
 close-counts x c k s e z = counts-by x c k s Dropped (openBy s (heardIn x)) (close-says x c s e z)
 
 -- by name:
-pub accept-raises : (x : Harness) (c : Lending) (s : ℕ) (a : ConnectResponse) → Complete (tableIn x) (c .bytes) (length (c .room)) s (request.ConnectRes a)
-    → errorsTold (nextIn x c .written) ≡ [] → accepted s 0 (heardIn (andThen x c)) ≡ accepted s 0 (heardIn x) + 1
+pub accept-raises : (x : Harness) (c : Lending) (s : ℕ) (a : ConnectResponse) → CompleteIn x c s (request.ConnectRes a)
+    → errorsHeard x c ≡ [] → accepted s 0 (heardIn (andThen x c)) ≡ accepted s 0 (heardIn x) + 1
 accept-raises x c = accept-counts x c (countOf Accepted)
 
-pub denial-raises : (x : Harness) (c : Lending) (s : ℕ) (d : DisconnectRequest) → Complete (tableIn x) (c .bytes) (length (c .room)) s (request.Disconnect d) → 0 < d .correlation .0
-    → errorsTold (nextIn x c .written) ≡ [] → denied s 0 (heardIn (andThen x c)) ≡ denied s 0 (heardIn x) + 1
+pub denial-raises : (x : Harness) (c : Lending) (s : ℕ) (d : DisconnectRequest) → CompleteIn x c s (request.Disconnect d) → 0 < d .correlation .0
+    → errorsHeard x c ≡ [] → denied s 0 (heardIn (andThen x c)) ≡ denied s 0 (heardIn x) + 1
 denial-raises x c = denial-counts x c (countOf Denied)
 
 pub withdrawal-raises : (x : Harness) (c : Lending) (s : ℕ) (n : Correlation) (reason : ℕ) → inputOf (c .bytes) ≡ input.CallWithdrawn s n reason

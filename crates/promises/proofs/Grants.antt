@@ -3,7 +3,6 @@ use Prim.Native.Nat.{ℕ, _≤_}
 use mathlib.Core.Path.{_≡_, refl, sym, ap, _∙_}
 use mathlib.Core.Bool.{true}
 use mathlib.Core.List.{List, [], _∷_}
-use lib.ListN.{length}
 use borrow.Author.Tests.{eq-eqb}
 use Rattle.ledger.proofs.Tallies.{chosen}
 use Rattle.paper.specs.Base.{number, Table, stream}
@@ -19,9 +18,8 @@ use Rattle.book.specs.declared.Line.{Line}
 use Rattle.book.specs.declared.Line.the-variants.{Given}
 use Rattle.book.specs.Book.{grantBy}
 use Rattle.book.proofs.Telling.{grant-telling}
-use Rattle.promises.specs.Answers.{errorsTold, Complete}
 use Rattle.promises.specs.History.{saidBy, grantedBy, opensStream}
-use Rattle.promises.specs.Harness.{Lending, Harness, tableIn, heardIn, nextIn, andThen}
+use Rattle.promises.specs.Harness.{Lending, Harness, tableIn, heardIn, nextIn, andThen, CompleteIn, errorsHeard}
 use Rattle.promises.proofs.Endings.{Tells, fails, message-says}
 use Rattle.promises.proofs.Harness.{agreed, grant-more}
 use Rattle.promises.proofs.Openings.{opening-says}
@@ -40,8 +38,8 @@ tells-bind t i l b =
     P = Tells t i l (Given i (grantOf (b .mode) (b .most)) ∷ [])
 
 -- A bind that is answered without an error sets it to what the paper grants,
-pub bind-grants : (x : Harness) (c : Lending) (s : ℕ) (b : BindRequest) → Complete (tableIn x) (c .bytes) (length (c .room)) s (request.Bind b)
-    → errorsTold (nextIn x c .written) ≡ [] → grantedBy s (heardIn (andThen x c)) ≡ grantOf (b .mode) (b .most)
+pub bind-grants : (x : Harness) (c : Lending) (s : ℕ) (b : BindRequest) → CompleteIn x c s (request.Bind b)
+    → errorsHeard x c ≡ [] → grantedBy s (heardIn (andThen x c)) ≡ grantOf (b .mode) (b .most)
 bind-grants x c s b m e =
     grant-more x c s
     ∙ sym (grant-telling s (saidBy (nextIn x c)) (grantedBy s (heardIn x)))

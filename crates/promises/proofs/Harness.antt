@@ -26,7 +26,7 @@ use Rattle.promises.proofs.ErrorAck.{errorsIn}
 use Rattle.promises.specs.Soundness.{Sound}
 use Rattle.promises.specs.History.{Answered, lines, fates, grantedBy, saidBy}
 use Rattle.promises.proofs.Runs.{Call, answeredBy, run, history}
-use Rattle.promises.specs.Harness.{Lending, leftOn, cameBack, imageAfter, heard, Harness, imageIn, tableIn, heardIn, nextIn, andThen}
+use Rattle.promises.specs.Harness.{Lending, leftOn, cameBack, imageAfter, heard, Harness, imageIn, tableIn, heardIn, nextIn, andThen, errorsHeard}
 use Rattle.promises.proofs.Agreement.{Agrees, agrees, are-bytes, kept, fair-history}
 use Rattle.promises.proofs.Images.{image-tidy}
 use Rattle.promises.proofs.Lent.{shaped}
@@ -56,7 +56,8 @@ pub record IsStep (t : Table) (c : Lending) (l : Left) : Type 0 where
   pub answer : cameBack c l ≡ answeredBy (asCall c) (outcome t c)
 
 -- what is taken apart of a number
-same-answer : (c : Lending) (l : Left) (refusal opened : ℕ) (written : List ℕ) → refusalIn (l .number) ≡ refusal → tokenIn (l .number) ≡ opened → take (writtenIn (l .number)) (l .room) ≡ written
+same-answer : (c : Lending) (l : Left) (refusal opened : ℕ) (written : List ℕ) → refusalIn (l .number) ≡ refusal → tokenIn (l .number) ≡ opened
+    → take (writtenIn (l .number)) (l .room) ≡ written
     → cameBack c l ≡ record { lent = c .bytes; refusal = refusal; opened = opened; written = written }
 same-answer c l refusal opened written a b w i = record { lent = c .bytes; refusal = a i; opened = b i; written = w i }
 
@@ -137,7 +138,7 @@ module _ (x : Harness) where
   next-is c = subst (λ (img : List ℕ). IsStep (tableIn x) c (leftOn img c)) (sym (image-is ∙ ap imageOf (sym table-is))) (one-call (tableIn x) (agreed 0 .sound) c)
 
   -- and tells the errors that its records tell
-  pub errors-heard : (c : Lending) → errorsTold (nextIn x c .written) ≡ errorsIn (outcome (tableIn x) c .records)
+  pub errors-heard : (c : Lending) → errorsHeard x c ≡ errorsIn (outcome (tableIn x) c .records)
   errors-heard c = ap (λ (a : Answered). errorsTold (a .written)) (next-is c .answer) ∙ told-step (tableIn x) (agreed 0 .sound) (c .bytes) (length (c .room))
 
   pub refusal-heard : (c : Lending) → nextIn x c .refusal ≡ outcome (tableIn x) c .refusal

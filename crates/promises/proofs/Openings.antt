@@ -265,12 +265,14 @@ unfolding posts
 opening-begins x c s h = fates-more x c s ∙ ap (λ (ys : List Line). posts s ys (fates s (heardIn x))) (opening-says x c s h) ∙ rw (eq-eqb s s refl)
 
 -- each count of it begins at 0;
-pub opening-counts-anew : (x : Harness) (c : Lending) (k s : ℕ) → opensStream s (nextIn x c) ≡ true → tallies k s (lines (heardIn (andThen x c))) [] ≡ 0 ∷ tallies k s (lines (heardIn x)) []
+pub opening-counts-anew : (x : Harness) (c : Lending) (k s : ℕ) → opensStream s (nextIn x c) ≡ true
+    → tallies k s (lines (heardIn (andThen x c))) [] ≡ 0 ∷ tallies k s (lines (heardIn x)) []
 unfolding tallies
 opening-counts-anew x c k s h = counts-more x c k s ∙ ap (λ (ys : List Line). tallies k s ys (tallies k s (lines (heardIn x)) [])) (opening-says x c s h) ∙ rw (eq-eqb s s refl)
 
 -- and any other call leaves the openings before the newest as they are.
-pub earlier-stay : (x : Harness) (c : Lending) (s : ℕ) → opensStream s (nextIn x c) ≡ false → earlier (fates s (heardIn (andThen x c))) ≡ earlier (fates s (heardIn x))
+pub earlier-stay : (x : Harness) (c : Lending) (s : ℕ) → opensStream s (nextIn x c) ≡ false
+    → earlier (fates s (heardIn (andThen x c))) ≡ earlier (fates s (heardIn x))
 earlier-stay x c s h =
     ap earlier (fates-more x c s)
     ∙ earlier-posts s (saidBy (nextIn x c)) (fates s (heardIn x))

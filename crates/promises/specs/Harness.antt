@@ -4,11 +4,13 @@ use Prim.Native.Nat.{ℕ}
 use mathlib.Core.Path.{_≡_}
 use mathlib.Core.Bool.{true}
 use mathlib.Core.List.{List, [], _∷_, _++_}
-use lib.ListN.{take}
+use lib.ListN.{length, take}
 use Rattle.paper.specs.Base.{Table}
 use Rattle.image.specs.Layout.{tableOf, areBytes}
 use Rattle.outcomes.specs.Leaving.{Left, refusalIn, tokenIn, writtenIn, callOf}
 use Rattle.outcomes.specs.Fresh.{freshOf}
+use Rattle.paper.specs.declared.Request.{Request}
+use Rattle.promises.specs.Answers.{errorsTold, Complete}
 use Rattle.promises.specs.History.{Answered}
 
 -- what is lent to a call besides the image: the bytes that it reads, and the room
@@ -63,3 +65,10 @@ nextIn x c = cameBack c (leftOn (imageIn x) c)
 
 abbrev pub andThen : Harness → Lending → Harness
 andThen x c = record { lent = x .lent; taken = x .taken; calls = x .calls ++ (c ∷ []) }
+
+-- that it is a complete message that asks stream s for q, and the errors that its answer tells
+abbrev pub CompleteIn : Harness → Lending → ℕ → Request → Type 0
+CompleteIn x c s q = Complete (tableIn x) (c .bytes) (length (c .room)) s q
+
+abbrev pub errorsHeard : Harness → Lending → List ℕ
+errorsHeard x c = errorsTold (nextIn x c .written)
