@@ -15,7 +15,7 @@ use Rattle.book.specs.declared.Line.{Line}
 use Rattle.book.specs.declared.Line.the-variants.{Began, Came, Went, Given, Nothing}
 use Rattle.book.specs.Lines.{telling}
 use Rattle.book.proofs.Telling.{tally-telling}
-use Rattle.book.specs.Book.{Fate, stillOpen, met, Opening, isStillOpen, countOf, openOf, mark, noted, newest, onNewest, post, posts, bump, tallyLine, tallies, countsAs, countIn, openCount, leftOpen}
+use Rattle.book.specs.Book.{Fate, stillOpen, met, Opening, isStillOpen, countOf, openOf, mark, noted, newest, onNewest, post, posts, bump, tallyLine, tallies, countsAs, countIn, hasMet, howMany, openCount, leftOpen}
 use Rattle.ledger.proofs.Tallies.{both-of}
 use Rattle.book.proofs.Sums.{pick-to}
 use Rattle.book.proofs.Shades.{shade, fair, fairs, open-post}
@@ -50,7 +50,39 @@ count-mark k n f (e ∷ o) h = go (e .number) (e .fate) h (count-mark k n f o)
         at-b true h = omega arith
         at-b false h = omega (arith, r (omega arith))
 
+-- count 0 is of all indications, each other one of those with its fate
+pub all-counted : (o : Opening) → countIn 0 o ≡ length o
+all-counted [] = refl
+all-counted (x ∷ o) = go (x .fate) (all-counted o)
+  where
+    go : (f : Fate) → countIn 0 o ≡ length o → countsAs 0 f + countIn 0 o ≡ suc (length o)
+    go stillOpen r = omega arith
+    go (met Accepted) r = omega arith
+    go (met Denied) r = omega arith
+    go (met Withdrawn) r = omega arith
+    go (met Dropped) r = omega arith
+
+pub met-counted : (e : End) (o : Opening) → countIn (countOf e) o ≡ howMany e o
+met-counted e [] = refl
+met-counted e (x ∷ o) = go e (x .fate) (met-counted e o)
+  where
+    some : (e : End) → oneIf (eqb (countOf e) 0) ≡ 0
+    some Accepted = refl
+    some Denied = refl
+    some Withdrawn = refl
+    some Dropped = refl
+
+    go : (e : End) (f : Fate) → countIn (countOf e) o ≡ howMany e o → countsAs (countOf e) f + countIn (countOf e) o ≡ oneIf (hasMet e f) + howMany e o
+    go e stillOpen r = omega (arith, some e, r)
+    go e (met f) r = omega (arith, some e, r)
+
 -- ---- a book
+
+pub count-at : (k : ℕ) (b : List Opening) (j : ℕ) → getD (map (countIn k) b) j 0 ≡ countIn k (getD b j [])
+count-at k [] j = refl
+count-at k (o ∷ b) zero = refl
+count-at k (o ∷ b) (suc j) = count-at k b j
+
 count-front : (k d : ℕ) (g : Opening → Opening) (b : List Opening) → countIn k (g (newest b)) ≡ countIn k (newest b) + d → map (countIn k) (onNewest g b) ≡ bump d (map (countIn k) b)
 count-front k d g [] e = ap (λ (m : ℕ). m ∷ []) (e ∙ omega arith)
 count-front k d g (o ∷ b) e = ap (λ (m : ℕ). m ∷ map (countIn k) b) e
@@ -106,3 +138,10 @@ ends-counted k s e w ys ts h = ap (λ (l : List ℕ). getD l 0 0) (sym (tally-te
     go (n ∷ w) ts =
         ap (λ (b : Bool). getD (tallies k s (map (λ (n : ℕ). Went s n e) w) (pick b (bump (oneIf (eqb k (countOf e))) ts) ts)) 0 0) (eq-eqb s s refl)
         ∙ go w (bump (oneIf (eqb k (countOf e))) ts) ∙ omega (arith, bump-first (oneIf (eqb k (countOf e))) ts)
+
+-- a call that rings in adds one, to the count of all
+pub ring-counted : (k s n : ℕ) (ys : List Line) (ts : List ℕ) → telling ys ≡ Came s n ∷ [] → getD (tallies k s ys ts) 0 0 ≡ getD ts 0 0 + oneIf (eqb k 0)
+unfolding tallies
+ring-counted k s n ys ts h =
+    ap (λ (l : List ℕ). getD l 0 0) (sym (tally-telling k s ys ts) ∙ ap (λ (zs : List Line). tallies k s zs ts) h)
+    ∙ ap (λ (b : Bool). getD (pick b (bump (oneIf (eqb k 0)) ts) ts) 0 0) (eq-eqb s s refl) ∙ bump-first (oneIf (eqb k 0)) ts

@@ -1,11 +1,17 @@
--- Lines that say nothing change no opening, no count and no grant.
+-- Lines that say nothing change no opening, no count and no grant; nor do lines about other streams an opening or a count.
 use Prim.Native.Nat.{ℕ}
-use mathlib.Core.Path.{_≡_, refl}
+use mathlib.Core.Path.{_≡_, refl, ap, _∙_}
+use mathlib.Core.Bool.{Bool, true, false, not}
 use mathlib.Core.List.{List, [], _∷_}
 use Rattle.book.specs.declared.Line.{Line}
 use Rattle.book.specs.declared.Line.the-variants.{Began, Came, Went, Given, Nothing}
-use Rattle.book.specs.Lines.{telling}
-use Rattle.book.specs.Book.{Opening, post, posts, tallyLine, tallies, grantLine, grantBy}
+use lib.Dec.{eqb}
+use borrow.Author.Tests.{not-true}
+use Rattle.ledger.specs.Choice.{pick}
+use Rattle.ledger.specs.Tally.{oneIf, allOf}
+use Rattle.ledger.proofs.Tallies.{both-of}
+use Rattle.book.specs.Lines.{telling, concerns}
+use Rattle.book.specs.Book.{Opening, mark, noted, onNewest, post, posts, countOf, bump, tallyLine, tallies, grantLine, grantBy}
 
 pub posts-telling : (s : ℕ) (ys : List Line) (b : List Opening) → posts s (telling ys) b ≡ posts s ys b
 unfolding posts
@@ -32,3 +38,33 @@ grant-telling s (Came i n ∷ ys) g = grant-telling s ys g
 grant-telling s (Went i n e ∷ ys) g = grant-telling s ys g
 grant-telling s (Given i n ∷ ys) g = grant-telling s ys (grantLine s (Given i n) g)
 grant-telling s (Nothing ∷ ys) g = grant-telling s ys g
+
+-- ---- lines about other streams
+
+pub others-post : (s : ℕ) (ys : List Line) (b : List Opening) → allOf (λ (y : Line). not (concerns s y)) ys ≡ true → posts s ys b ≡ b
+unfolding posts
+others-post s [] b h = refl
+others-post s (y ∷ ys) b h =
+    let g : (not (concerns s y) ≡ true) × (allOf (λ (y : Line). not (concerns s y)) ys ≡ true) = both-of _ _ h in
+    ap (posts s ys) (one y (not-true _ (g .0))) ∙ others-post s ys b (g .1)
+  where
+    one : (y : Line) → concerns s y ≡ false → post s y b ≡ b
+    one (Began i) e = ap (λ (q : Bool). pick q ([] ∷ b) b) e
+    one (Came i n) e = ap (λ (q : Bool). pick q (onNewest (noted n) b) b) e
+    one (Went i n f) e = ap (λ (q : Bool). pick q (onNewest (mark n f) b) b) e
+    one (Given i g) e = refl
+    one Nothing e = refl
+
+pub others-tally : (k s : ℕ) (ys : List Line) (ts : List ℕ) → allOf (λ (y : Line). not (concerns s y)) ys ≡ true → tallies k s ys ts ≡ ts
+unfolding tallies
+others-tally k s [] ts h = refl
+others-tally k s (y ∷ ys) ts h =
+    let g : (not (concerns s y) ≡ true) × (allOf (λ (y : Line). not (concerns s y)) ys ≡ true) = both-of _ _ h in
+    ap (tallies k s ys) (one y (not-true _ (g .0))) ∙ others-tally k s ys ts (g .1)
+  where
+    one : (y : Line) → concerns s y ≡ false → tallyLine k s y ts ≡ ts
+    one (Began i) e = ap (λ (q : Bool). pick q (0 ∷ ts) ts) e
+    one (Came i n) e = ap (λ (q : Bool). pick q (bump (oneIf (eqb k 0)) ts) ts) e
+    one (Went i n f) e = ap (λ (q : Bool). pick q (bump (oneIf (eqb k (countOf f))) ts) ts) e
+    one (Given i g) e = refl
+    one Nothing e = refl

@@ -112,6 +112,14 @@ countsAs k (met e) = oneIf (eqb k 0) + oneIf (eqb k (countOf e))
 abbrev pub countIn : ℕ → Opening → ℕ
 countIn k o = sumOf (λ (x : Indication). countsAs k (x .fate)) o
 
+-- how many indications of an opening have met an end
+abbrev pub hasMet : End → Fate → Bool
+hasMet e stillOpen = false
+hasMet e (met f) = eqb (countOf e) (countOf f)
+
+abbrev pub howMany : End → Opening → ℕ
+howMany e o = sumOf (λ (x : Indication). oneIf (hasMet e (x .fate))) o
+
 -- ---- the count granted at the bind of a stream's newest opening, 0 where there was none
 
 abbrev pub grantLine : ℕ → Line → ℕ → ℕ

@@ -9,23 +9,26 @@ use native.Mathlib.Omega.{arith}
 use Rattle.ledger.specs.Choice.{either}
 use Rattle.ledger.specs.Tally.{has}
 use borrow.Author.Tests.{ltb-false, not-false}
+use Rattle.paper.specs.ErrorOrder.{verdictOn}
+use Rattle.paper.specs.Rows.{performed, hasRow}
+use Rattle.paper.specs.Step.{answered, ofOpen, message, step}
+use Rattle.paper.specs.declared.Verdict.{Verdict}
+use Rattle.paper.specs.declared.Verdict.the-variants.{Serves, Fails}
+use Rattle.promises.specs.Answers.{errorsBy, errorsTold, Complete, offersBusy}
+use Rattle.promises.proofs.ErrorAck.{row-tells, errorsIn, error-leaves-image}
 use Rattle.ledger.proofs.Tallies.{chosen, both-of}
 use Rattle.paper.specs.Base.{Table, stream}
 use Rattle.paper.specs.Messages.{askedBy}
 use Rattle.paper.specs.RecordsIn.{inputOf, messageIn}
 use Rattle.paper.specs.Refusals.{Outcome, refused}
-use Rattle.paper.specs.Step.{ofOpen, message, step}
 use Rattle.paper.specs.declared.Asked.the-variants.{For}
 use Rattle.paper.specs.declared.Input.the-variants as input
 use Rattle.promises.proofs.Demand1.{refusal-is-the-papers, unsound-gives-sixteen}
 use Rattle.paper.specs.ErrorCodes.{outState}
-use Rattle.paper.specs.Rows.{hasRow}
 use Rattle.paper.specs.declared.Request.{Request}
 use Rattle.image.specs.Layout.{tableOf, tidy, soundImage}
 use Rattle.image.proofs.ImageBack.{image-back}
 use Rattle.outcomes.specs.Leaving.{Left}
-use Rattle.promises.specs.Answers.{errorsTold, Complete, offersBusy}
-use Rattle.promises.proofs.ErrorAck.{errorsIn, error-leaves-image}
 use Rattle.promises.specs.Harness.{Lending, leftOn, cameBack}
 use Rattle.promises.specs.History.{Answered}
 use Rattle.promises.proofs.Harness.{outcome, IsStep, one-call}
@@ -59,6 +62,31 @@ pub complete-by : (img : List ℕ) (c : Lending) (i l : ℕ) (q : Request) → s
     → askedBy (messageIn (c .bytes) l) ≡ For q
     → cameBack c (leftOn img c) .refusal ≡ 0 → Complete (tableOf img) (c .bytes) (length (c .room)) i q
 complete-by img c i l q s e a z = passed-step (tableOf img) (c .bytes) (length (c .room)) i l q e a .passed (sym (refusal-is-the-papers img (c .bytes) (c .room) s) ∙ z)
+
+-- What a message that is not refused tells is the error of the first rule that applies, in the paper's order, and nothing else.
+module _ (t : Table) (r : List ℕ) (room i l : ℕ) (e : inputOf r ≡ input.Message i l) where
+  record Tells (o : Outcome) : Type 0 where
+    tells : o .refusal ≡ 0 → errorsIn (o .records) ≡ errorsBy (verdictOn t i (askedBy (messageIn r l)))
+
+  says-no : {n : ℕ} → 0 < n → Tells (refused t n)
+  says-no h = record { tells = λ z. absurd (omega (arith, h, z)) }
+
+  by-verdict : (m : List ℕ) (v : Verdict) → errorsIn (answered t i m v .records) ≡ errorsBy v
+  unfolding answered performed
+  by-verdict m (Fails a) = refl
+  by-verdict m (Serves a) = row-tells t i m a
+
+  tells-step : Tells (step t r room)
+  unfolding step ofOpen message
+  tells-step = chosen Tells _ _ _ (λ f. says-no (omega arith)) (λ f. chosen Tells _ _ _ (λ f. says-no (omega arith)) (λ f. chosen Tells _ _ _ (λ f. says-no (omega arith))
+      (λ b. rw e (chosen Tells _ _ _ (λ f. says-no (omega arith)) (λ o. chosen Tells _ _ _ (λ f. says-no (omega arith)) (λ w. chosen Tells _ _ _ (λ f. says-no (omega arith))
+      (λ d. record { tells = λ z. by-verdict (messageIn r l) (verdictOn t i (askedBy (messageIn r l))) })))))))
+
+pub message-tells : (img : List ℕ) (c : Lending) (i l : ℕ) → soundImage img ≡ true → inputOf (c .bytes) ≡ input.Message i l → cameBack c (leftOn img c) .refusal ≡ 0
+    → errorsTold (cameBack c (leftOn img c) .written) ≡ errorsBy (verdictOn (tableOf img) i (askedBy (messageIn (c .bytes) l)))
+message-tells img c i l s e z =
+    errors-of-the-call img c s
+    ∙ tells-step (tableOf img) (c .bytes) (length (c .room)) i l e .tells (sym (refusal-is-the-papers img (c .bytes) (c .room) s) ∙ z)
 
 -- "A complete message that we serve gets DL_OUTSTATE exactly if the paper's state table has no row for it, or if an
 -- accept, with no earlier error in the paper's order, offers another stream that isn't idle."

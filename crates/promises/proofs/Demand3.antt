@@ -12,9 +12,11 @@ use Rattle.paper.specs.ErrorOrder.{judgeDenial, judgeDisconnect, isWaiting, jud
 use Rattle.paper.specs.Rows.{performed}
 use Rattle.paper.specs.Step.{answered, step}
 use Rattle.paper.specs.declared.Verdict.{Verdict}
-use Rattle.book.specs.Book.{Opening, openCount, tallies, countIn, openOf, newest, posts}
+use Rattle.book.specs.Book.{Opening, openCount, tallies, countIn, openOf, newest, posts, countOf, howMany}
 use Rattle.promises.proofs.ErrorAck.{row-tells, errorsIn}
 use Rattle.promises.proofs.Named.{row-nine, names-accept, names-denial}
+use Rattle.book.specs.declared.End.the-variants.{Accepted, Denied, Withdrawn, Dropped}
+use Rattle.book.proofs.Counts.{count-at, all-counted, met-counted, sums, none-left}
 use Rattle.ledger.specs.Tally.{occ, has, allOf}
 use Rattle.paper.specs.Base.{number, isIn, Slot, closed, fresh, slot, stream, waiting, ppaNumbers, Table}
 use Rattle.paper.specs.Correlations.{occurrences}
@@ -26,7 +28,6 @@ use Rattle.paper.specs.declared.ConnectResponse.{ConnectResponse}
 use Rattle.paper.specs.declared.DisconnectRequest.{DisconnectRequest}
 use Rattle.paper.specs.declared.Request.{Request}
 use Rattle.paper.specs.declared.Request.the-variants as request
-use Rattle.book.proofs.Counts.{sums, none-left}
 use Rattle.book.proofs.Sums.{sum-at, sum-two}
 use Rattle.promises.proofs.OutState.{gets, answers, answer-tells}
 use Rattle.promises.specs.History.{lines, fates, openBy, grantedBy, counted, indicated, accepted, denied, withdrawn, dropped, leftOpenIn, Answered}
@@ -83,6 +84,25 @@ one-fate-each x s j =
 -- the records, is that of the fates, opening by opening.
 pub counted-from-records : (x : Harness) (s k : ℕ) → tallies k s (lines (heardIn x)) [] ≡ map (countIn k) (fates s (heardIn x))
 counted-from-records x s k = agreed x s .counts k
+
+-- A count is of the indications themselves: `indicated` of all, each of the others of those with its fate.
+counted-are : (x : Harness) (k s j : ℕ) → counted k s j (heardIn x) ≡ countIn k (getD (fates s (heardIn x)) j [])
+counted-are x k s j = ap (λ (l : List ℕ). getD l j 0) (agreed x s .counts k) ∙ count-at k (fates s (heardIn x)) j
+
+pub indicated-are : (x : Harness) (s j : ℕ) → indicated s j (heardIn x) ≡ length (getD (fates s (heardIn x)) j [])
+indicated-are x s j = counted-are x 0 s j ∙ all-counted (getD (fates s (heardIn x)) j [])
+
+pub accepted-are : (x : Harness) (s j : ℕ) → accepted s j (heardIn x) ≡ howMany Accepted (getD (fates s (heardIn x)) j [])
+accepted-are x s j = counted-are x (countOf Accepted) s j ∙ met-counted Accepted (getD (fates s (heardIn x)) j [])
+
+pub denied-are : (x : Harness) (s j : ℕ) → denied s j (heardIn x) ≡ howMany Denied (getD (fates s (heardIn x)) j [])
+denied-are x s j = counted-are x (countOf Denied) s j ∙ met-counted Denied (getD (fates s (heardIn x)) j [])
+
+pub withdrawn-are : (x : Harness) (s j : ℕ) → withdrawn s j (heardIn x) ≡ howMany Withdrawn (getD (fates s (heardIn x)) j [])
+withdrawn-are x s j = counted-are x (countOf Withdrawn) s j ∙ met-counted Withdrawn (getD (fates s (heardIn x)) j [])
+
+pub dropped-are : (x : Harness) (s j : ℕ) → dropped s j (heardIn x) ≡ howMany Dropped (getD (fates s (heardIn x)) j [])
+dropped-are x s j = counted-are x (countOf Dropped) s j ∙ met-counted Dropped (getD (fates s (heardIn x)) j [])
 
 -- An opening before the newest has no indication still open (of a newest one that is closed: `closed-has-none`).
 pub none-open-at-close : (x : Harness) (s j : ℕ) → leftOpenIn s (suc j) (heardIn x) ≡ 0

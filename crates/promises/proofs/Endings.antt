@@ -2,13 +2,13 @@
 -- 'dropped' of each open one. Each follows from the records that its row writes.
 use Prim.Native.Nat.{ℕ, _+_, _*_, _<_}
 use mathlib.Core.Path.{_≡_, refl, sym, ap, subst, _∙_}
-use mathlib.Core.Bool.{Bool, true, false, false≢true}
-use mathlib.Core.List.{List, [], _∷_, map}
+use mathlib.Core.Bool.{Bool, true, false, false≢true, not}
+use mathlib.Core.List.{List, [], _∷_, map, _++_}
 use lib.ListN.{length, getD, set}
 use lib.Dec.{eqb}
 use native.Mathlib.Omega.{arith}
 use borrow.Author.Tests.{eq-eqb, ne-eqb, lt-ltb, not-false}
-use Rattle.ledger.specs.Tally.{oneIf, occ}
+use Rattle.ledger.specs.Tally.{oneIf, occ, allOf}
 use Rattle.ledger.proofs.Tallies.{chosen, empty}
 use Rattle.paper.specs.Base.{Slot, closed, Table, slot, stream, waiting, ppaNumbers}
 use Rattle.paper.specs.Correlations.{occurrences, nextNumber}
@@ -36,9 +36,9 @@ use Rattle.book.specs.declared.End.{End}
 use Rattle.book.specs.declared.End.the-variants.{Accepted, Denied, Withdrawn, Dropped}
 use Rattle.book.specs.declared.Line.{Line}
 use Rattle.book.specs.declared.Line.the-variants.{Went, Came}
-use Rattle.book.specs.Lines.{telling}
-use Rattle.book.specs.Book.{countOf, tallies, stillOpen, met, Opening, noIndication, mark, newest, onNewest, posts}
-use Rattle.book.proofs.Counts.{ends-counted}
+use Rattle.book.specs.Lines.{telling, concerns}
+use Rattle.book.specs.Book.{countOf, tallies, stillOpen, met, Opening, noIndication, mark, newest, onNewest, posts, noted}
+use Rattle.book.proofs.Counts.{ends-counted, ring-counted}
 use Rattle.book.proofs.Said.{lineOf, said}
 use Rattle.book.proofs.Sums.{sum-at}
 use Rattle.promises.proofs.ErrorAck.{errorsIn}
@@ -49,11 +49,11 @@ use Rattle.promises.proofs.Changes.{quiet}
 use Rattle.promises.proofs.Harness.{outcome, agreed, errors-heard, lines-heard, refusal-heard, fates-more, counts-more}
 use Rattle.promises.proofs.OutState.{answers}
 use Rattle.promises.proofs.Steps.{open-nonzero}
+use Rattle.book.proofs.Telling.{others-post, others-tally, posts-telling}
 use Rattle.ledger.specs.Choice.{pick}
 use Rattle.paper.specs.Saps.{listener}
 use Rattle.paper.specs.declared.PpaNumber.{PpaNumber}
 use Rattle.book.proofs.Marks.{marked}
-use Rattle.book.proofs.Telling.{posts-telling}
 use Rattle.promises.proofs.Demand3.{once-on-a-stream}
 use Rattle.promises.proofs.Refused.{refusal-is-all}
 use Rattle.promises.proofs.Tested.{sound-test}
@@ -221,6 +221,13 @@ pub close-counts : (x : Harness) (c : Lending) (k s : ℕ) → inputOf (c .bytes
     → nextIn x c .refusal ≡ 0 → counted k s 0 (heardIn (andThen x c)) ≡ counted k s 0 (heardIn x) + oneIf (eqb k (countOf Dropped)) * length (openBy s (heardIn x))
 close-counts x c k s e z = counts-by x c k s Dropped (openBy s (heardIn x)) (close-says x c s e z)
 
+pub arrival-counts : (x : Harness) (c : Lending) (k : ℕ) (p : PpaNumber) (sap : ℕ) → inputOf (c .bytes) ≡ input.CallArrives p sap → nextIn x c .refusal ≡ 0
+    → counted k (listener (tableIn x) p sap) 0 (heardIn (andThen x c)) ≡ counted k (listener (tableIn x) p sap) 0 (heardIn x) + oneIf (eqb k 0)
+arrival-counts x c k p sap e z =
+    let s : ℕ = listener (tableIn x) p sap in
+    ap (λ (l : List ℕ). getD l 0 0) (counts-more x c k s)
+    ∙ ring-counted k s (nextNumber (tableIn x)) (saidBy (nextIn x c)) (tallies k s (lines (heardIn x)) []) (arrival-says x c p sap e z)
+
 -- by name:
 pub accept-raises : (x : Harness) (c : Lending) (s : ℕ) (a : ConnectResponse) → CompleteIn x c s (request.ConnectRes a)
     → errorsHeard x c ≡ [] → accepted s 0 (heardIn (andThen x c)) ≡ accepted s 0 (heardIn x) + 1
@@ -254,3 +261,27 @@ ends-in-the-book x c s n k e t l h =
     front : (b : List Opening) → newest (onNewest (mark n e) b) ≡ mark n e (newest b)
     front [] = refl
     front (o ∷ b) = refl
+
+-- one that rings in is entered as the youngest, still open,
+pub arrival-in-the-book : (x : Harness) (c : Lending) (p : PpaNumber) (sap : ℕ) → inputOf (c .bytes) ≡ input.CallArrives p sap → nextIn x c .refusal ≡ 0
+    → newest (fates (listener (tableIn x) p sap) (heardIn (andThen x c)))
+    ≡ newest (fates (listener (tableIn x) p sap) (heardIn x)) ++ (record { number = nextNumber (tableIn x); fate = stillOpen } ∷ [])
+unfolding posts
+arrival-in-the-book x c p sap e z =
+    let s : ℕ = listener (tableIn x) p sap in
+    let n : ℕ = nextNumber (tableIn x) in
+    ap newest (fates-more x c s ∙ sym (posts-telling s (saidBy (nextIn x c)) (fates s (heardIn x))) ∙ ap (λ (ys : List Line). posts s ys (fates s (heardIn x))) (arrival-says x c p sap e z))
+    ∙ ap (λ (b : Bool). newest (pick b (onNewest (noted n) (fates s (heardIn x))) (fates s (heardIn x)))) (eq-eqb s s refl)
+    ∙ front n (fates s (heardIn x))
+  where
+    front : (n : ℕ) (b : List Opening) → newest (onNewest (noted n) b) ≡ noted n (newest b)
+    front n [] = refl
+    front n (o ∷ b) = refl
+
+-- and of a stream that no line of a call concerns, neither fates nor counts change
+pub others-stay : (x : Harness) (c : Lending) (s : ℕ) → allOf (λ (y : Line). not (concerns s y)) (saidBy (nextIn x c)) ≡ true → fates s (heardIn (andThen x c)) ≡ fates s (heardIn x)
+others-stay x c s h = fates-more x c s ∙ others-post s (saidBy (nextIn x c)) (fates s (heardIn x)) h
+
+pub others-count : (x : Harness) (c : Lending) (k s : ℕ) → allOf (λ (y : Line). not (concerns s y)) (saidBy (nextIn x c)) ≡ true
+    → tallies k s (lines (heardIn (andThen x c))) [] ≡ tallies k s (lines (heardIn x)) []
+others-count x c k s h = counts-more x c k s ∙ others-tally k s (saidBy (nextIn x c)) (tallies k s (lines (heardIn x)) []) h
