@@ -2,15 +2,16 @@
 use Prim.Native.Nat.{ℕ}
 use mathlib.Core.Path.{_≡_, refl, ap, _∙_}
 use mathlib.Core.Bool.{Bool, true, false, not}
-use mathlib.Core.List.{List, [], _∷_}
+use mathlib.Core.List.{List, [], _∷_, map}
+use Rattle.book.specs.declared.End.{End}
 use Rattle.book.specs.declared.Line.{Line}
 use Rattle.book.specs.declared.Line.the-variants.{Began, Came, Went, Given, Nothing}
 use lib.Dec.{eqb}
-use borrow.Author.Tests.{not-true}
+use borrow.Author.Tests.{not-true, ne-eqb}
 use Rattle.ledger.specs.Choice.{pick}
 use Rattle.ledger.specs.Tally.{oneIf, allOf}
-use Rattle.ledger.proofs.Tallies.{both-of}
-use Rattle.book.specs.Lines.{telling, concerns}
+use Rattle.ledger.proofs.Tallies.{both-of, to-both}
+use Rattle.book.specs.Lines.{telling}
 use Rattle.book.specs.Book.{Opening, mark, noted, onNewest, post, posts, countOf, bump, tallyLine, tallies, grantLine, grantBy}
 
 pub posts-telling : (s : ℕ) (ys : List Line) (b : List Opening) → posts s (telling ys) b ≡ posts s ys b
@@ -41,6 +42,14 @@ grant-telling s (Nothing ∷ ys) g = grant-telling s ys g
 
 -- ---- lines about other streams
 
+-- a line about an opening or a call of stream s
+abbrev pub concerns : ℕ → Line → Bool
+concerns s (Began i) = eqb s i
+concerns s (Came i n) = eqb s i
+concerns s (Went i n e) = eqb s i
+concerns s (Given i g) = false
+concerns s Nothing = false
+
 pub others-post : (s : ℕ) (ys : List Line) (b : List Opening) → allOf (λ (y : Line). not (concerns s y)) ys ≡ true → posts s ys b ≡ b
 unfolding posts
 others-post s [] b h = refl
@@ -68,3 +77,11 @@ others-tally k s (y ∷ ys) ts h =
     one (Went i n f) e = ap (λ (q : Bool). pick q (bump (oneIf (eqb k (countOf f))) ts) ts) e
     one (Given i g) e = refl
     one Nothing e = refl
+
+-- each of these is about stream s alone
+pub none-ends : (i s : ℕ) (e : End) (w : List ℕ) → (i ≡ s → ⊥) → allOf (λ (y : Line). not (concerns i y)) (map (λ (n : ℕ). Went s n e) w) ≡ true
+none-ends i s e [] d = refl
+none-ends i s e (n ∷ w) d = to-both _ _ (ap not (ne-eqb i s d)) (none-ends i s e w d)
+
+pub none-comes : (i s n : ℕ) → (i ≡ s → ⊥) → allOf (λ (y : Line). not (concerns i y)) (Came s n ∷ []) ≡ true
+none-comes i s n d = to-both _ true (ap not (ne-eqb i s d)) refl

@@ -1,7 +1,7 @@
 -- What one call says of connection indications: read from the bytes lent, the stream opened and the bytes written.
 use Prim.Native.Nat.{ℕ, zero, suc}
 use mathlib.Core.List.{List, [], _∷_, _++_, map}
-use mathlib.Core.Bool.{Bool, true, false}
+use mathlib.Core.Bool.{Bool, true}
 use lib.ListN.{length, getD, drop}
 use lib.Dec.{eqb}
 use Rattle.ledger.specs.Choice.{both, _⇒_∣_}
@@ -97,14 +97,6 @@ telling (Came i n ∷ ys) = Came i n ∷ telling ys
 telling (Went i n e ∷ ys) = Went i n e ∷ telling ys
 telling (Given i g ∷ ys) = Given i g ∷ telling ys
 telling (Nothing ∷ ys) = telling ys
-
--- a line about an opening or a call of stream s
-abbrev pub concerns : ℕ → Line → Bool
-concerns s (Began i) = eqb s i
-concerns s (Came i n) = eqb s i
-concerns s (Went i n e) = eqb s i
-concerns s (Given i g) = false
-concerns s Nothing = false
 
 -- ---- which record lent may say which line
 

@@ -3,7 +3,7 @@
 use Prim.Native.Nat.{ℕ, _<_}
 use mathlib.Core.Path.{_≡_, refl, sym, ap, subst, _∙_}
 use mathlib.Core.Bool.{Bool, true, false, not}
-use mathlib.Core.List.{List}
+use mathlib.Core.List.{List, [], _∷_}
 use lib.ListN.{length}
 use native.Mathlib.Omega.{arith}
 use Rattle.ledger.specs.Choice.{either}
@@ -14,8 +14,11 @@ use Rattle.paper.specs.Rows.{performed, hasRow}
 use Rattle.paper.specs.Step.{answered, ofOpen, message, step}
 use Rattle.paper.specs.declared.Verdict.{Verdict}
 use Rattle.paper.specs.declared.Verdict.the-variants.{Serves, Fails}
-use Rattle.promises.specs.Answers.{errorsBy, errorsTold, Complete, offersBusy}
+use Rattle.promises.specs.Answers.{errorsTold, Complete, offersBusy}
 use Rattle.promises.proofs.ErrorAck.{row-tells, errorsIn, error-leaves-image}
+use Rattle.paper.specs.ErrorCodes.{errorOf, outState}
+use Rattle.paper.specs.declared.Rule.{Rule}
+use Rattle.paper.specs.declared.Row.{Row}
 use Rattle.ledger.proofs.Tallies.{chosen, both-of}
 use Rattle.paper.specs.Base.{Table, stream}
 use Rattle.paper.specs.Messages.{askedBy}
@@ -24,7 +27,6 @@ use Rattle.paper.specs.Refusals.{Outcome, refused}
 use Rattle.paper.specs.declared.Asked.the-variants.{For}
 use Rattle.paper.specs.declared.Input.the-variants as input
 use Rattle.promises.proofs.Demand1.{refusal-is-the-papers, unsound-gives-sixteen}
-use Rattle.paper.specs.ErrorCodes.{outState}
 use Rattle.paper.specs.declared.Request.{Request}
 use Rattle.image.specs.Layout.{tableOf, tidy, soundImage}
 use Rattle.image.proofs.ImageBack.{image-back}
@@ -63,7 +65,12 @@ pub complete-by : (img : List ℕ) (c : Lending) (i l : ℕ) (q : Request) → s
     → cameBack c (leftOn img c) .refusal ≡ 0 → Complete (tableOf img) (c .bytes) (length (c .room)) i q
 complete-by img c i l q s e a z = passed-step (tableOf img) (c .bytes) (length (c .room)) i l q e a .passed (sym (refusal-is-the-papers img (c .bytes) (c .room) s) ∙ z)
 
--- What a message that is not refused tells is the error of the first rule that applies, in the paper's order, and nothing else.
+-- ---- what a message tells: the error of its verdict
+
+abbrev errorsBy : Verdict → List ℕ
+errorsBy (Serves r) = []
+errorsBy (Fails r) = errorOf r ∷ []
+
 module _ (t : Table) (r : List ℕ) (room i l : ℕ) (e : inputOf r ≡ input.Message i l) where
   record Tells (o : Outcome) : Type 0 where
     tells : o .refusal ≡ 0 → errorsIn (o .records) ≡ errorsBy (verdictOn t i (askedBy (messageIn r l)))
@@ -82,11 +89,21 @@ module _ (t : Table) (r : List ℕ) (room i l : ℕ) (e : inputOf r ≡ input.Me
       (λ b. rw e (chosen Tells _ _ _ (λ f. says-no (omega arith)) (λ o. chosen Tells _ _ _ (λ f. says-no (omega arith)) (λ w. chosen Tells _ _ _ (λ f. says-no (omega arith))
       (λ d. record { tells = λ z. by-verdict (messageIn r l) (verdictOn t i (askedBy (messageIn r l))) })))))))
 
-pub message-tells : (img : List ℕ) (c : Lending) (i l : ℕ) → soundImage img ≡ true → inputOf (c .bytes) ≡ input.Message i l → cameBack c (leftOn img c) .refusal ≡ 0
+message-tells : (img : List ℕ) (c : Lending) (i l : ℕ) → soundImage img ≡ true → inputOf (c .bytes) ≡ input.Message i l → cameBack c (leftOn img c) .refusal ≡ 0
     → errorsTold (cameBack c (leftOn img c) .written) ≡ errorsBy (verdictOn (tableOf img) i (askedBy (messageIn (c .bytes) l)))
 message-tells img c i l s e z =
     errors-of-the-call img c s
     ∙ tells-step (tableOf img) (c .bytes) (length (c .room)) i l e .tells (sym (refusal-is-the-papers img (c .bytes) (c .room) s) ∙ z)
+
+-- A message that is not refused tells the error of the first rule that applies, in the paper's order, and nothing else;
+pub rule-tells : (img : List ℕ) (c : Lending) (i l : ℕ) (a : Rule) → soundImage img ≡ true → inputOf (c .bytes) ≡ input.Message i l → cameBack c (leftOn img c) .refusal ≡ 0
+    → verdictOn (tableOf img) i (askedBy (messageIn (c .bytes) l)) ≡ Fails a → errorsTold (cameBack c (leftOn img c) .written) ≡ errorOf a ∷ []
+rule-tells img c i l a s e z v = message-tells img c i l s e z ∙ ap errorsBy v
+
+-- where none applies it tells none.
+pub row-tells-none : (img : List ℕ) (c : Lending) (i l : ℕ) (a : Row) → soundImage img ≡ true → inputOf (c .bytes) ≡ input.Message i l → cameBack c (leftOn img c) .refusal ≡ 0
+    → verdictOn (tableOf img) i (askedBy (messageIn (c .bytes) l)) ≡ Serves a → errorsTold (cameBack c (leftOn img c) .written) ≡ []
+row-tells-none img c i l a s e z v = message-tells img c i l s e z ∙ ap errorsBy v
 
 -- "A complete message that we serve gets DL_OUTSTATE exactly if the paper's state table has no row for it, or if an
 -- accept, with no earlier error in the paper's order, offers another stream that isn't idle."

@@ -35,8 +35,8 @@ use Rattle.paper.specs.declared.Verdict.the-variants.{Fails}
 use Rattle.book.specs.declared.End.{End}
 use Rattle.book.specs.declared.End.the-variants.{Accepted, Denied, Withdrawn, Dropped}
 use Rattle.book.specs.declared.Line.{Line}
-use Rattle.book.specs.declared.Line.the-variants.{Went, Came}
-use Rattle.book.specs.Lines.{telling, concerns}
+use Rattle.book.specs.declared.Line.the-variants.{Came, Went, Given}
+use Rattle.book.specs.Lines.{telling}
 use Rattle.book.specs.Book.{countOf, tallies, stillOpen, met, Opening, noIndication, mark, newest, onNewest, posts, noted}
 use Rattle.book.proofs.Counts.{ends-counted, ring-counted}
 use Rattle.book.proofs.Said.{lineOf, said}
@@ -49,7 +49,7 @@ use Rattle.promises.proofs.Changes.{quiet}
 use Rattle.promises.proofs.Harness.{outcome, agreed, errors-heard, lines-heard, refusal-heard, fates-more, counts-more}
 use Rattle.promises.proofs.OutState.{answers}
 use Rattle.promises.proofs.Steps.{open-nonzero}
-use Rattle.book.proofs.Telling.{others-post, others-tally, posts-telling}
+use Rattle.book.proofs.Telling.{posts-telling, tally-telling, concerns, others-post, others-tally, none-ends, none-comes}
 use Rattle.ledger.specs.Choice.{pick}
 use Rattle.paper.specs.Saps.{listener}
 use Rattle.paper.specs.declared.PpaNumber.{PpaNumber}
@@ -278,10 +278,32 @@ arrival-in-the-book x c p sap e z =
     front n [] = refl
     front n (o ∷ b) = refl
 
--- and of a stream that no line of a call concerns, neither fates nor counts change
-pub others-stay : (x : Harness) (c : Lending) (s : ℕ) → allOf (λ (y : Line). not (concerns s y)) (saidBy (nextIn x c)) ≡ true → fates s (heardIn (andThen x c)) ≡ fates s (heardIn x)
-others-stay x c s h = fates-more x c s ∙ others-post s (saidBy (nextIn x c)) (fates s (heardIn x)) h
+-- ---- and nothing else changes, in fates or counts
 
-pub others-count : (x : Harness) (c : Lending) (k s : ℕ) → allOf (λ (y : Line). not (concerns s y)) (saidBy (nextIn x c)) ≡ true
-    → tallies k s (lines (heardIn (andThen x c))) [] ≡ tallies k s (lines (heardIn x)) []
-others-count x c k s h = counts-more x c k s ∙ others-tally k s (saidBy (nextIn x c)) (tallies k s (lines (heardIn x)) []) h
+abbrev Stays : Harness → Lending → ℕ → Type 0
+Stays x c i = (fates i (heardIn (andThen x c)) ≡ fates i (heardIn x)) × ((k : ℕ) → tallies k i (lines (heardIn (andThen x c))) [] ≡ tallies k i (lines (heardIn x)) [])
+
+stays : (x : Harness) (c : Lending) (i : ℕ) (ys : List Line) → telling (saidBy (nextIn x c)) ≡ ys → allOf (λ (y : Line). not (concerns i y)) ys ≡ true → Stays x c i
+stays x c i ys e h = (
+  fates-more x c i ∙ sym (posts-telling i (saidBy (nextIn x c)) (fates i (heardIn x))) ∙ ap (λ (zs : List Line). posts i zs (fates i (heardIn x))) e ∙ others-post i ys (fates i (heardIn x)) h,
+  λ k. counts-more x c k i ∙ sym (tally-telling k i (saidBy (nextIn x c)) (tallies k i (lines (heardIn x)) [])) ∙ ap (λ (zs : List Line). tallies k i zs (tallies k i (lines (heardIn x)) [])) e ∙ others-tally k i ys (tallies k i (lines (heardIn x)) []) h,
+)
+
+-- of another stream than the one whose calls end,
+pub ends-alone : (x : Harness) (c : Lending) (i s : ℕ) (e : End) (w : List ℕ) → telling (saidBy (nextIn x c)) ≡ map (λ (n : ℕ). Went s n e) w → (i ≡ s → ⊥)
+    → (fates i (heardIn (andThen x c)) ≡ fates i (heardIn x)) × ((k : ℕ) → tallies k i (lines (heardIn (andThen x c))) [] ≡ tallies k i (lines (heardIn x)) [])
+ends-alone x c i s e w h d = stays x c i _ h (none-ends i s e w d)
+
+-- or than the one to which a call rings in,
+pub arrives-alone : (x : Harness) (c : Lending) (i s n : ℕ) → telling (saidBy (nextIn x c)) ≡ Came s n ∷ [] → (i ≡ s → ⊥)
+    → (fates i (heardIn (andThen x c)) ≡ fates i (heardIn x)) × ((k : ℕ) → tallies k i (lines (heardIn (andThen x c))) [] ≡ tallies k i (lines (heardIn x)) [])
+arrives-alone x c i s n h d = stays x c i _ h (none-comes i s n d)
+
+-- and of any stream where only a grant is said, or nothing.
+pub grant-ends-none : (x : Harness) (c : Lending) (i s g : ℕ) → telling (saidBy (nextIn x c)) ≡ Given s g ∷ []
+    → (fates i (heardIn (andThen x c)) ≡ fates i (heardIn x)) × ((k : ℕ) → tallies k i (lines (heardIn (andThen x c))) [] ≡ tallies k i (lines (heardIn x)) [])
+grant-ends-none x c i s g h = stays x c i _ h refl
+
+pub silence-ends-none : (x : Harness) (c : Lending) (i : ℕ) → telling (saidBy (nextIn x c)) ≡ []
+    → (fates i (heardIn (andThen x c)) ≡ fates i (heardIn x)) × ((k : ℕ) → tallies k i (lines (heardIn (andThen x c))) [] ≡ tallies k i (lines (heardIn x)) [])
+silence-ends-none x c i h = stays x c i _ h refl

@@ -16,6 +16,7 @@ use Rattle.paper.specs.declared.Request.the-variants as request
 use Rattle.paper.specs.declared.Verdict.{Verdict}
 use Rattle.book.specs.declared.Line.{Line}
 use Rattle.book.specs.declared.Line.the-variants.{Given}
+use Rattle.book.specs.Lines.{telling}
 use Rattle.book.specs.Book.{grantBy}
 use Rattle.book.proofs.Telling.{grant-telling}
 use Rattle.promises.specs.History.{saidBy, grantedBy, opensStream}
@@ -37,13 +38,18 @@ tells-bind t i l b =
     P : Verdict → Type 0
     P = Tells t i l (Given i (grantOf (b .mode) (b .most)) ∷ [])
 
--- A bind that is answered without an error sets it to what the paper grants,
+-- A bind that is answered without an error says what it was granted and nothing else,
+pub bind-says : (x : Harness) (c : Lending) (s : ℕ) (b : BindRequest) → CompleteIn x c s (request.Bind b)
+    → errorsHeard x c ≡ [] → telling (saidBy (nextIn x c)) ≡ Given s (grantOf (b .mode) (b .most)) ∷ []
+bind-says x c s b m = message-says x c s (request.Bind b) _ m (tells-bind (tableIn x) s (m .size) b)
+
+-- sets the count to what the paper grants,
 pub bind-grants : (x : Harness) (c : Lending) (s : ℕ) (b : BindRequest) → CompleteIn x c s (request.Bind b)
     → errorsHeard x c ≡ [] → grantedBy s (heardIn (andThen x c)) ≡ grantOf (b .mode) (b .most)
 bind-grants x c s b m e =
     grant-more x c s
     ∙ sym (grant-telling s (saidBy (nextIn x c)) (grantedBy s (heardIn x)))
-    ∙ ap (λ (ys : List Line). grantBy s ys (grantedBy s (heardIn x))) (message-says x c s (request.Bind b) _ m (tells-bind (tableIn x) s (m .size) b) e)
+    ∙ ap (λ (ys : List Line). grantBy s ys (grantedBy s (heardIn x))) (bind-says x c s b m e)
     ∙ rw (eq-eqb s s refl)
 
 -- and from state 6 on it is the count in the table.

@@ -12,10 +12,7 @@ use Rattle.paper.specs.Base.{isIn, Table, slot}
 use Rattle.paper.specs.Messages.{askedBy}
 use Rattle.paper.specs.RecordsIn.{inputOf, messageIn}
 use Rattle.paper.specs.RecordsOut.{Record}
-use Rattle.paper.specs.ErrorCodes.{errorOf}
 use Rattle.paper.specs.ErrorOrder.{carrierOf, isWaiting}
-use Rattle.paper.specs.declared.Verdict.{Verdict}
-use Rattle.paper.specs.declared.Verdict.the-variants.{Serves, Fails}
 use Rattle.image.specs.Layout.{joined}
 use Rattle.transcript.specs.Transcript.{isMessage}
 use Rattle.book.specs.Lines.{recordsIn}
@@ -35,11 +32,6 @@ errorAt b = both (isMessage (getD b 0 0)) (eqb (be32At b 3) 0x05) ⇒ be32At b 1
 
 abbrev pub errorsTold : List ℕ → List ℕ
 errorsTold written = joined errorAt (recordsIn (length written) written)
-
--- the error of a verdict
-abbrev pub errorsBy : Verdict → List ℕ
-errorsBy (Serves r) = []
-errorsBy (Fails r) = errorOf r ∷ []
 
 -- ---- a complete message that we serve
 
