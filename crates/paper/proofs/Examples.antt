@@ -2,8 +2,10 @@
 -- computation.
 use mathlib.Core.Path.{_≡_, refl}
 use mathlib.Core.List.{_++_, map}
+use Prim.Native.Nat.{ℕ}
+use lib.ListN.{getD, take}
 use Rattle.ledger.specs.Choice.{_⇒_∣_}
-use Rattle.paper.specs.Base.{lowestFree, knows, macOf, withSlot, withCalls, withStream, withCounter, withPpa, remembering}
+use Rattle.paper.specs.Base.{fresh, lowestFree, knows, macOf, withSlot, withCalls, withStream, withCounter, withPpa, remembering}
 use Rattle.paper.specs.Correlations.{occurrences, nextNumber}
 use Rattle.paper.specs.ErrorOrder.{judgeAttach, judgeListening, judgeBind, judgeConnect, carrierOf, judgeOther, judgeItself, judgeCarrier, judgeAccept, judgeDenial, judgeDisconnect, isWaiting, judgeServed, judge}
 use Rattle.paper.specs.Events.{eventRow, peerAccepted, peerGone, callWithdrawn, peerReset, resetConfirmed, ringing, rings, hears, heardBy, callArrives}
@@ -16,8 +18,16 @@ use Rattle.paper.specs.Rows.{hasRow, losing, carryingItself, moved, tabl
 use Rattle.paper.specs.Saps.{isSap, isType, grantOf, asBindAllows, listens, listener, isListenedFor}
 use Rattle.paper.specs.Sound.{holdsNothing, soundSlot, isSingle, isAlone, sound}
 use Rattle.paper.specs.Step.{answered, ofOpen, message, step}
-use Rattle.paper.specs.Examples.{dueOf, cameOf, leadUp, starred}
+use Rattle.paper.specs.Examples.{Case, dueOf, cameOf, leadUp, onTheWay, starred, standsAfter}
 
 pub starred-hold : map cameOf (leadUp ++ starred) ≡ map dueOf (leadUp ++ starred)
 unfolding _⇒_∣_ lowestFree knows macOf withSlot withCalls withStream withCounter withPpa remembering occurrences nextNumber judgeAttach judgeListening judgeBind judgeConnect carrierOf judgeOther judgeItself judgeCarrier judgeAccept judgeDenial judgeDisconnect isWaiting judgeServed judge eventRow peerAccepted peerGone callWithdrawn peerReset resetConfirmed ringing rings hears heardBy callArrives otherCode primitiveOf sized askedBy addsPpa opens goodbyes closes kindOf recordSize hasNonzeroPadding inputOf inOrder addressOf infoOf infoTail contentOf hasRow losing carryingItself moved tableAfter ordersOf flushes repliesTo performed isSap isType grantOf asBindAllows listens listener isListenedFor holdsNothing soundSlot isSingle isAlone sound answered ofOpen message step
 starred-hold = refl
+
+-- The calls that lead up are one run from a fresh table: each begins with the table that the one before must leave,
+pub lead-up-runs : map (λ (x : Case). x .before) leadUp ≡ take 6 onTheWay
+lead-up-runs = refl
+
+-- and each case stands on a table on that way.
+pub starred-stand : map (λ (x : Case). x .before) starred ≡ map (λ (n : ℕ). getD onTheWay n fresh) standsAfter
+starred-stand = refl

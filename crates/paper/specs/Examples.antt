@@ -168,6 +168,10 @@ leadUp =
     ∷ record { before = ringing 2 (1 ∷ []); lent = callArrives; room = 128; due = writes (connectInd 2) (ringing 3 (1 ∷ 2 ∷ [])) }
     ∷ []
 
+-- the tables on the way: a fresh one, and the one that each of these calls must leave
+abbrev pub onTheWay : List Table
+onTheWay = fresh ∷ map (λ (x : Case). x .due .table) leadUp
+
 abbrev pub starred : List Case
 starred =
     -- INFO_REQ unattached: state field 0, L 82. Bound to 0x80: L 89.
@@ -190,3 +194,7 @@ starred =
     -- Two open, accept on the same stream: PENDING.
     ∷ record { before = ringing 3 (1 ∷ 2 ∷ []); lent = connectRes 1; room = 128; due = writes (errorAck 0x0f 0x1b) (ringing 3 (1 ∷ 2 ∷ [])) }
     ∷ []
+
+-- after how many of the calls that lead up each case stands
+abbrev pub standsAfter : List ℕ
+standsAfter = 2 ∷ 4 ∷ 3 ∷ 3 ∷ 2 ∷ 2 ∷ 2 ∷ 2 ∷ 4 ∷ 4 ∷ 4 ∷ 3 ∷ 6 ∷ []
