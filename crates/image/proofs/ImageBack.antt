@@ -12,11 +12,10 @@ use Rattle.ledger.specs.Choice.{_⇒_∣_}
 use Rattle.ledger.specs.Tally.{oneIf, occ}
 use Rattle.octets.specs.Numbers.{be16At, be32At, be16, be32}
 use Rattle.octets.specs.Runs.{part}
-use Rattle.paper.specs.Base.{numberOf, Slot}
-use Rattle.paper.specs.Rows.{everyState}
+use Rattle.paper.specs.Base.{numberOf, Slot, stateOf, everyState}
 use Rattle.paper.specs.declared.State.{State}
 use Rattle.paper.specs.declared.State.the-variants.{Unbound, Idle, OutconPending, InconPending, DataXfer, UserResetPending, ProvResetPending}
-use Rattle.image.specs.Layout.{ppaBase, slotBase, listed, bit, stateOf, ppaFrom, streamFrom, waitingFrom, maskIn, slotAt, ppaAt, tableOf, padTo, joined, maskOf, ppaBytes, streamBytes, waitingBytes, slotBytes, headerBytes, imageOf, isState, tidy}
+use Rattle.image.specs.Layout.{ppaBase, slotBase, listed, bit, ppaFrom, streamFrom, waitingFrom, maskIn, slotAt, ppaAt, tableOf, padTo, joined, maskOf, ppaBytes, streamBytes, waitingBytes, slotBytes, headerBytes, imageOf, isState, tidy}
 use Rattle.image.proofs.Bits.{mask-only}
 use Rattle.image.proofs.Joined.{listed-length, listed-back, each-take, part-length, part-add, joined-listed, pad-listed}
 use Rattle.image.proofs.TableBack.{slot-at, be32At-part, flat-joined}

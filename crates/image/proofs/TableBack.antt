@@ -13,12 +13,12 @@ use Rattle.octets.specs.Numbers.{be32At, be32}
 use Rattle.octets.specs.Runs.{part}
 use Rattle.octets.specs.Blocks.{flat}
 use Rattle.octets.proofs.Laws.{be16At-be16, be32At-be32}
-use Rattle.paper.specs.Base.{numberOf, Slot, Table, slot, closed, noPpa}
+use Rattle.paper.specs.Base.{numberOf, Slot, Table, slot, closed, noPpa, stateOf}
 use Rattle.paper.specs.declared.State.{State}
 use Rattle.paper.specs.declared.State.the-variants.{Unattached, Unbound, Idle, OutconPending, InconPending, DataXfer, UserResetPending, ProvResetPending}
 use Rattle.paper.specs.declared.Stream.{Stream}
 use Rattle.paper.specs.declared.Ppa.{Ppa}
-use Rattle.image.specs.Layout.{ppaBase, slotBase, listed, bit, stateOf, ppaFrom, streamFrom, waitingFrom, maskIn, slotAt, ppaAt, tableOf, joined, maskOf, ppaBytes, streamBytes, waitingBytes, slotBytes, headerBytes, imageOf}
+use Rattle.image.specs.Layout.{ppaBase, slotBase, listed, bit, ppaFrom, streamFrom, waitingFrom, maskIn, slotAt, ppaAt, tableOf, joined, maskOf, ppaBytes, streamBytes, waitingBytes, slotBytes, headerBytes, imageOf}
 use Rattle.image.specs.Shape.{Shaped}
 use Rattle.image.proofs.Bits.{mask-bit}
 use Rattle.image.proofs.Joined.{listed-at, listed-back, joined-at, part-be32}

@@ -4,16 +4,13 @@ use mathlib.Core.Bool.{Bool, not}
 use mathlib.Core.List.{List, [], _∷_, _++_}
 use lib.ListN.{length, getD, replicate}
 use lib.Dec.{eqb, ltb, leb}
-use Rattle.ledger.specs.Choice.{both, _⇒_∣_}
+use Rattle.ledger.specs.Choice.{both}
 use Rattle.ledger.specs.Tally.{oneIf, has, allOf}
 use Rattle.octets.specs.Numbers.{be16At, be32At, be16, be32}
 use Rattle.octets.specs.Runs.{part, allZero}
 use Rattle.octets.specs.Blocks.{flat}
-use Rattle.paper.specs.Base.{numberOf, Slot, Table}
+use Rattle.paper.specs.Base.{numberOf, stateOf, Slot, Table, everyState}
 use Rattle.paper.specs.Sound.{sound}
-use Rattle.paper.specs.Rows.{everyState}
-use Rattle.paper.specs.declared.State.{State}
-use Rattle.paper.specs.declared.State.the-variants.{Unattached, Unbound, Idle, OutconPending, InconPending, DataXfer, UserResetPending, ProvResetPending}
 use Rattle.paper.specs.declared.Stream.{Stream}
 use Rattle.paper.specs.declared.Ppa.{Ppa}
 
@@ -38,17 +35,6 @@ listed f i (suc n) = f i ∷ listed f (suc i) n
 -- bit i of a mask
 abbrev pub bit : ℕ → ℕ → ℕ
 bit m i = m / 2 ^ i % 2
-
-unfoldable pub stateOf : ℕ → State
-stateOf n =
-    eqb n 3 ⇒ Unbound
-    ∣ eqb n 6 ⇒ Idle
-    ∣ eqb n 8 ⇒ OutconPending
-    ∣ eqb n 9 ⇒ InconPending
-    ∣ eqb n 11 ⇒ DataXfer
-    ∣ eqb n 12 ⇒ UserResetPending
-    ∣ eqb n 13 ⇒ ProvResetPending
-    ∣ Unattached
 
 -- the ten bytes of a place
 unfoldable pub ppaFrom : List ℕ → Ppa

@@ -4,8 +4,8 @@ ghost use mathlib.Core.Path.{_≡_};
 ghost use Prim.Native.Nat.{_+_, _-_, _^_, _<_};
 ghost use lib.ListN.{length};
 ghost use Rattle.ledger.specs.Tally.{oneIf, sumOf};
-ghost use Rattle.paper.specs.Base.{Slot, fresh, slot, stream, waiting, closed, justOpened, lowestFree, withSlot, withStream, withCounter, withPpa, remembering};
-ghost use Rattle.image.specs.Layout.{bit, stateOf, streamFrom, maskIn, tableOf, streamBytes, imageOf};
+ghost use Rattle.paper.specs.Base.{Slot, fresh, slot, stream, waiting, closed, justOpened, lowestFree, withSlot, withStream, withCounter, withPpa, remembering, stateOf};
+ghost use Rattle.image.specs.Layout.{bit, streamFrom, maskIn, tableOf, streamBytes, imageOf};
 ghost use Rattle.image.specs.Lent.{Lent};
 use paper::PpaNumber;
 use paper::State;
@@ -13,28 +13,13 @@ use paper::Stream;
 
 // ---- streams
 
-// The state with a number in the manual's state table.
-pub fn state_of(n: u8) -> State
-    ensures { λ r. ⌜ r ≡ stateOf n ⌝ }
-{
-    match n {
-        3 => State::Unbound,
-        6 => State::Idle,
-        8 => State::OutconPending,
-        9 => State::InconPending,
-        11 => State::DataXfer,
-        12 => State::UserResetPending,
-        13 => State::ProvResetPending,
-        _ => State::Unattached,
-    }
-}
 
 // The stream in the bytes of a slot.
 fn stream_from(c: &[u8]) -> Stream
     requires { ⌜ length (now c) ≡ 42 ⌝ }
     ensures { λ r. ⌜ r ≡ streamFrom (now (c .entry)) ⌝ }
 {
-    let state = state_of(c[0]);
+    let state = paper::state_of(c[0]);
     let sap = octets::number16_inside(c, 2);
     let ppa = PpaNumber(octets::number32_inside(c, 4));
     Stream {
@@ -60,7 +45,7 @@ pub fn state_at(img: &[u8], i: usize) -> State
     requires { ⌜ (i < 16) × (length (now img) ≡ 760) ⌝ }
     ensures { λ r. ⌜ r ≡ stream (tableOf (now (img .entry))) i .state ⌝ }
 {
-    state_of(img[i * 42 + 88])
+    paper::state_of(img[i * 42 + 88])
 }
 
 pub fn granted_at(img: &[u8], i: usize) -> u8

@@ -5,23 +5,25 @@ use mathlib.Core.List.{_++_, map}
 use Prim.Native.Nat.{ℕ}
 use lib.ListN.{getD, take}
 use Rattle.ledger.specs.Choice.{_⇒_∣_}
-use Rattle.paper.specs.Base.{fresh, lowestFree, knows, macOf, withSlot, withCalls, withStream, withCounter, withPpa, remembering}
+use Rattle.paper.specs.Base.{stateOf, fresh, lowestFree, knows, macOf, withSlot, withCalls, withStream, withCounter, withPpa, remembering}
 use Rattle.paper.specs.Correlations.{occurrences, nextNumber}
-use Rattle.paper.specs.ErrorOrder.{judgeAttach, judgeListening, judgeBind, judgeConnect, carrierOf, judgeOther, judgeItself, judgeCarrier, judgeAccept, judgeDenial, judgeDisconnect, isWaiting, judgeServed, judge}
-use Rattle.paper.specs.Events.{eventRow, peerAccepted, peerGone, callWithdrawn, peerReset, resetConfirmed, ringing, rings, hears, heardBy, callArrives}
+use Rattle.paper.specs.Sight.{carrierOf, answerTo}
+use Rattle.paper.specs.StateRows.{found}
+use Rattle.paper.specs.Effects.{changed, carried, enacted, ordersIn, behindReply, upsIn, told, effectOf, eventEffect}
+use Rattle.paper.specs.ErrorOrder.{judgeAttach, judgeListening, judgeBind, judgeConnect, judgeOther, judgeItself, judgeCarrier, judgeAccept, judgeDenial, judgeDisconnect, judgeServed}
+use Rattle.paper.specs.Decide.{effectBy, decideBy}
 use Rattle.paper.specs.Messages.{otherCode, primitiveOf, sized, askedBy}
 use Rattle.paper.specs.Openings.{addsPpa, opens, goodbyes, closes}
 use Rattle.paper.specs.RecordsIn.{kindOf, recordSize, hasNonzeroPadding, inputOf}
 use Rattle.paper.specs.RecordsOut.{inOrder}
 use Rattle.paper.specs.Replies.{addressOf, infoOf, infoTail, contentOf}
-use Rattle.paper.specs.Rows.{hasRow, losing, carryingItself, moved, tableAfter, ordersOf, flushes, repliesTo, performed}
 use Rattle.paper.specs.Saps.{isSap, isType, grantOf, asBindAllows, listens, listener, isListenedFor}
 use Rattle.paper.specs.Sound.{holdsNothing, soundSlot, isSingle, isAlone, sound}
-use Rattle.paper.specs.Step.{answered, ofOpen, message, step}
+use Rattle.paper.specs.Step.{enact, comes, ofOpen, message, arrives, stepBy}
 use Rattle.paper.specs.Examples.{Case, dueOf, cameOf, leadUp, onTheWay, starred, standsAfter}
 
 pub starred-hold : map cameOf (leadUp ++ starred) ≡ map dueOf (leadUp ++ starred)
-unfolding _⇒_∣_ lowestFree knows macOf withSlot withCalls withStream withCounter withPpa remembering occurrences nextNumber judgeAttach judgeListening judgeBind judgeConnect carrierOf judgeOther judgeItself judgeCarrier judgeAccept judgeDenial judgeDisconnect isWaiting judgeServed judge eventRow peerAccepted peerGone callWithdrawn peerReset resetConfirmed ringing rings hears heardBy callArrives otherCode primitiveOf sized askedBy addsPpa opens goodbyes closes kindOf recordSize hasNonzeroPadding inputOf inOrder addressOf infoOf infoTail contentOf hasRow losing carryingItself moved tableAfter ordersOf flushes repliesTo performed isSap isType grantOf asBindAllows listens listener isListenedFor holdsNothing soundSlot isSingle isAlone sound answered ofOpen message step
+unfolding _⇒_∣_ stateOf lowestFree knows macOf withSlot withCalls withStream withCounter withPpa remembering occurrences nextNumber carrierOf answerTo found changed carried enacted ordersIn behindReply upsIn told effectOf eventEffect judgeAttach judgeListening judgeBind judgeConnect judgeOther judgeItself judgeCarrier judgeAccept judgeDenial judgeDisconnect judgeServed effectBy decideBy otherCode primitiveOf sized askedBy addsPpa opens goodbyes closes kindOf recordSize hasNonzeroPadding inputOf inOrder addressOf infoOf infoTail contentOf isSap isType grantOf asBindAllows listens listener isListenedFor holdsNothing soundSlot isSingle isAlone sound enact comes ofOpen message arrives stepBy
 starred-hold = refl
 
 -- The calls that lead up are one run from a fresh table: each begins with the table that the one before must leave,

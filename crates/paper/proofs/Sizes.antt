@@ -8,7 +8,7 @@ use lib.ListN.{length, length-append}
 use Rattle.ledger.proofs.Tallies.{picked}
 use Rattle.octets.specs.Blocks.{flat}
 use Rattle.octets.proofs.Laws.{flat-length}
-use Rattle.paper.specs.Base.{isBound}
+use Rattle.paper.specs.Base.{isAmong, toldStates}
 use Rattle.paper.specs.Replies.{infoOf, fieldsOf, contentOf, replySize, addressBytes}
 use Rattle.paper.specs.declared.Stream.{Stream}
 use Rattle.paper.specs.declared.Reply.{Reply}
@@ -17,7 +17,7 @@ use Rattle.paper.specs.declared.Reply.the-variants.{InfoAck, BindAck, Er
 -- unbound and bound, INFO_ACK has its 18 fields
 pub info-length : (s : Stream) → length (infoOf s) ≡ 18
 unfolding infoOf
-info-length s = picked (λ (l : List ℕ). length l ≡ 18) (isBound s) _ _ (λ e. refl) (λ e. refl)
+info-length s = picked (λ (l : List ℕ). length l ≡ 18) (isAmong toldStates s) _ _ (λ e. refl) (λ e. refl)
 
 -- the fields, and the addresses that the size counts
 fields-size : (r : Reply) → length (fieldsOf r) * 4 + addressBytes r ≡ replySize r

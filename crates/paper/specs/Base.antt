@@ -3,7 +3,8 @@ use Prim.Native.Nat.{ℕ, suc}
 use mathlib.Core.Bool.{Bool, true, false, not}
 use mathlib.Core.List.{List, [], _∷_, _++_, map}
 use lib.ListN.{getD, set, replicate}
-use lib.Dec.{eqb, leb}
+use lib.Dec.{eqb}
+use Rattle.ledger.specs.Choice.{pick, _⇒_∣_}
 use Rattle.ledger.specs.Tally.{has, firstOf}
 use Rattle.paper.specs.declared.State.{State}
 use Rattle.paper.specs.declared.State.the-variants.{Unattached, Unbound, Idle, OutconPending, InconPending, DataXfer, UserResetPending, ProvResetPending}
@@ -24,22 +25,68 @@ numberOf DataXfer = 11
 numberOf UserResetPending = 12
 numberOf ProvResetPending = 13
 
+-- The state with a number: `Unattached` for a number that is no state's.
+unfoldable pub stateOf : ℕ → State
+stateOf n =
+    eqb n 3 ⇒ Unbound
+    ∣ eqb n 6 ⇒ Idle
+    ∣ eqb n 8 ⇒ OutconPending
+    ∣ eqb n 9 ⇒ InconPending
+    ∣ eqb n 11 ⇒ DataXfer
+    ∣ eqb n 12 ⇒ UserResetPending
+    ∣ eqb n 13 ⇒ ProvResetPending
+    ∣ Unattached
+
 abbrev pub number : Stream → ℕ
 number s = numberOf (s .state)
 
 abbrev pub isIn : ℕ → Stream → Bool
 isIn n s = eqb (number s) n
 
--- A stream is bound from state 6 on.
-abbrev pub isBound : Stream → Bool
-isBound s = leb 6 (number s)
+-- ---- the states by what a stream holds in them: they are asked by these lists, never by their order
+
+abbrev pub isAmong : List ℕ → Stream → Bool
+isAmong states s = has (number s) states
+
+-- the states that the paper has
+abbrev pub everyState : List ℕ
+everyState = 0 ∷ 3 ∷ 6 ∷ 8 ∷ 9 ∷ 11 ∷ 12 ∷ 13 ∷ []
+
+-- a binding
+abbrev pub boundStates : List ℕ
+boundStates = 6 ∷ 8 ∷ 9 ∷ 11 ∷ 12 ∷ 13 ∷ []
+
+-- a binding that INFO_ACK tells
+abbrev pub toldStates : List ℕ
+toldStates = boundStates
+
+-- a binding in mode 1: the states above 6
+abbrev pub connectionStates : List ℕ
+connectionStates = 8 ∷ 9 ∷ 11 ∷ 12 ∷ 13 ∷ []
+
+-- a call of its own: asked for, up, or being reset
+abbrev pub callingStates : List ℕ
+callingStates = 8 ∷ 11 ∷ 12 ∷ 13 ∷ []
+
+-- a call that is up, or being reset
+abbrev pub joinedStates : List ℕ
+joinedStates = 11 ∷ 12 ∷ 13 ∷ []
 
 -- A stream that holds nothing: one just opened, or a closed one.
 abbrev pub noStream : Stream
 noStream = record { state = Unattached; mode = 0; sap = 0; ppa = record { 0 = 0 }; granted = 0 }
 
+-- one that is attached alone
+abbrev pub attachedIn : State → PpaNumber → Stream
+attachedIn q p = record { state = q; mode = 0; sap = 0; ppa = p; granted = 0 }
+
+-- one with all that it held
 abbrev pub inState : State → Stream → Stream
 inState q s = record { state = q; mode = s .mode; sap = s .sap; ppa = s .ppa; granted = s .granted }
+
+-- A stream that goes to a state holds what that state holds: nothing in 0, its PPA alone where no binding is held.
+abbrev pub settled : State → Stream → Stream
+settled q s = pick (eqb (numberOf q) 0) noStream (pick (has (numberOf q) boundStates) (inState q s) (attachedIn q (s .ppa)))
 
 -- One of the table's streams: open or not, how it stands, and the numbers of its open indications, oldest first.
 pub record Slot : Type 0 where
@@ -95,6 +142,10 @@ noPpa = record { number = record { 0 = 0 }; mac = replicate 6 0 }
 
 unfoldable pub macOf : Table → PpaNumber → List ℕ
 macOf t p = getD (t .ppas) (firstOf (λ (q : Ppa). eqb (q .number .0) (p .0)) (t .ppas)) noPpa .mac
+
+-- the MAC of the PPA that stream i is attached to
+abbrev pub macAt : Table → ℕ → List ℕ
+macAt t i = macOf t (stream t i .ppa)
 
 -- ---- the table with one thing changed
 unfoldable pub withSlot : Table → ℕ → Slot → Table

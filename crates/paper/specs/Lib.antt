@@ -8,10 +8,12 @@ pub mod Openings
 pub mod Messages
 pub mod Replies
 pub mod ErrorCodes
-pub mod ErrorOrder
 pub mod Saps
-pub mod Rows
-pub mod Events
+pub mod StateRows
+pub mod Sight
+pub mod ErrorOrder
+pub mod Effects
+pub mod Decide
 pub mod Correlations
 pub mod Step
 pub mod Examples

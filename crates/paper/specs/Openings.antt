@@ -4,8 +4,7 @@ use mathlib.Core.List.{List, [], _∷_, map}
 use lib.ListN.{length}
 use lib.Dec.{ltb, leb}
 use Rattle.ledger.specs.Choice.{_⇒_∣_}
-use Rattle.ledger.specs.Tally.{has}
-use Rattle.paper.specs.Base.{number, isIn, Slot, closed, justOpened, Table, slot, lowestFree, knows, withSlot, withPpa, remembering}
+use Rattle.paper.specs.Base.{isIn, isAmong, callingStates, Slot, closed, justOpened, Table, slot, lowestFree, knows, withSlot, withPpa, remembering}
 use Rattle.paper.specs.RecordsOut.{Record, order}
 use Rattle.paper.specs.Refusals.{allOpen, noNewPpa, Outcome, refused, served, servedOpening}
 use Rattle.paper.specs.declared.PpaNumber.{PpaNumber}
@@ -28,12 +27,12 @@ opens t =
 -- Close writes a d with reason 0: from 8, 11, 12, 13 one with correlation 0, from 9 one for each open indication with
 -- its number, oldest first.
 abbrev pub goodbye : ℕ → ℕ → Record
-goodbye i n = order (lineOrder.Disconnect i (record { 0 = n }) 0) []
+goodbye i n = order i (lineOrder.Disconnect (record { 0 = n }) 0) []
 
 unfoldable pub goodbyes : ℕ → Slot → List Record
 goodbyes i x =
     isIn 9 (x .stream) ⇒ map (goodbye i) (x .waiting)
-    ∣ has (number (x .stream)) (8 ∷ 11 ∷ 12 ∷ 13 ∷ []) ⇒ goodbye i 0 ∷ []
+    ∣ isAmong callingStates (x .stream) ⇒ goodbye i 0 ∷ []
     ∣ []
 
 unfoldable pub closes : Table → ℕ → Outcome

@@ -11,26 +11,26 @@ use Rattle.paper.specs.declared.LineOrder.{LineOrder}
 use Rattle.paper.specs.declared.LineOrder.the-variants as lineOrder
 use Rattle.paper.specs.declared.Reply.{Reply}
 
--- An order to the line, with the called address of a connect; a flush of both queues; a message up to a stream, with
--- the bytes behind its fields.
+-- An order to the line, of a stream, with the called address of a connect; a flush of both queues; a message up to a
+-- stream, with the bytes behind its fields.
 pub data Record : Type 0 where
-  order : LineOrder → List ℕ → Record
+  order : ℕ → LineOrder → List ℕ → Record
   flush : ℕ → Record
   up : ℕ → Reply → List ℕ → Record
 
-abbrev pub orderBytes : LineOrder → List ℕ
-orderBytes (lineOrder.Connect s) = 99 ∷ s ∷ []  -- c: stream; the called address follows
-orderBytes (lineOrder.Accept s n) = (97 ∷ s ∷ []) ++ be32 (n .0)  -- a: carrying stream, correlation
-orderBytes (lineOrder.Disconnect s n reason) = (100 ∷ s ∷ []) ++ be32 (n .0) ++ be32 reason  -- d: stream, correlation, reason
-orderBytes (lineOrder.Reset s) = 114 ∷ s ∷ []  -- r: stream
-orderBytes (lineOrder.ResetAnswer s) = 115 ∷ s ∷ []  -- s: stream
+abbrev pub orderBytes : ℕ → LineOrder → List ℕ
+orderBytes s (lineOrder.Connect at) = 99 ∷ s ∷ []  -- c: stream; the called address follows
+orderBytes s (lineOrder.Accept n) = (97 ∷ s ∷ []) ++ be32 (n .0)  -- a: carrying stream, correlation
+orderBytes s (lineOrder.Disconnect n reason) = (100 ∷ s ∷ []) ++ be32 (n .0) ++ be32 reason  -- d: stream, correlation, reason
+orderBytes s lineOrder.Reset = 114 ∷ s ∷ []  -- r: stream
+orderBytes s lineOrder.ResetAnswer = 115 ∷ s ∷ []  -- s: stream
 
 -- P or C: stream, length L, the block of 96 bytes, zero past L.
 abbrev pub messageBytes : Bool → ℕ → List ℕ → List ℕ
 messageBytes asC s content = (pick asC 67 80 ∷ s ∷ length content ∷ []) ++ pad content
 
 abbrev pub bytesOf : Record → List ℕ
-bytesOf (order o called) = orderBytes o ++ called
+bytesOf (order s o called) = orderBytes s o ++ called
 bytesOf (flush s) = 70 ∷ s ∷ []  -- F: stream
 bytesOf (up s reply tail) = messageBytes (goesAsC reply) s (contentOf reply tail)
 

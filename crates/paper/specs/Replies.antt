@@ -6,7 +6,7 @@ use lib.ListN.{replicate}
 use lib.Dec.{ltb}
 use Rattle.ledger.specs.Choice.{pick}
 use Rattle.octets.specs.Blocks.{flat}
-use Rattle.paper.specs.Base.{number, isBound}
+use Rattle.paper.specs.Base.{number, isAmong, toldStates}
 use Rattle.paper.specs.declared.Stream.{Stream}
 use Rattle.paper.specs.declared.Reply.{Reply}
 use Rattle.paper.specs.declared.Reply.the-variants.{InfoAck, BindAck, ErrorAck, OkAck, ConnectInd, ConnectCon, TokenAck, DisconnectInd, ResetInd, ResetCon}
@@ -36,13 +36,13 @@ infoFields state address sap mode offset =
 
 unfoldable pub infoOf : Stream → List ℕ
 infoOf s =
-    pick (isBound s)
+    pick (isAmong toldStates s)
     (infoFields (number s) (addressLength (s .sap)) (2 ^ 32 - sapLength (s .sap)) (s .mode) 76)
     (infoFields (number s) 0 0 3 0)
 
 -- then the address if bound, then six bytes of 0xff
 unfoldable pub infoTail : List ℕ → Stream → List ℕ
-infoTail mac s = pick (isBound s) (addressOf mac (s .sap)) [] ++ replicate 6 0xff
+infoTail mac s = pick (isAmong toldStates s) (addressOf mac (s .sap)) [] ++ replicate 6 0xff
 
 -- The code, and the fields after it.
 abbrev pub fieldsOf : Reply → List ℕ

@@ -7,7 +7,7 @@ use lib.ListN.{length}
 use lib.Dec.{eqb, ltb, leb}
 use Rattle.ledger.specs.Choice.{pick, both, either, asks}
 use Rattle.ledger.specs.Tally.{occ, has, oneIf, sumOf, allOf}
-use Rattle.paper.specs.Base.{number, isIn, isBound, Slot, Table, ppaNumbers}
+use Rattle.paper.specs.Base.{isIn, isAmong, boundStates, connectionStates, Slot, Table, ppaNumbers}
 use Rattle.paper.specs.Saps.{asBindAllows, listens}
 use Rattle.paper.specs.Correlations.{occurrences}
 use Rattle.paper.specs.declared.Stream.{Stream}
@@ -35,9 +35,9 @@ openTests ppas x =
     -- attached to a PPA of the table except in 0 (decided: in 0 it has no PPA number),
     pick (isIn 0 (x .stream)) (eqb (x .stream .ppa .0) 0) (has (x .stream .ppa .0) ppas)
     -- and bound as BIND allows from 6 on (decided: below 6 it holds nothing of a bind),
-    ∷ pick (isBound (x .stream)) (asBindAllows (x .stream)) (every (unbound (x .stream)))
+    ∷ pick (isAmong boundStates (x .stream)) (asBindAllows (x .stream)) (every (unbound (x .stream)))
     -- in mode 1 above 6;
-    ∷ asks (ltb 6 (number (x .stream))) (eqb (x .stream .mode) 1)
+    ∷ asks (isAmong connectionStates (x .stream)) (eqb (x .stream .mode) 1)
     -- only state 9 has open indications, at least one
     ∷ sameAnswer (isIn 9 (x .stream)) (ltb 0 (length (x .waiting)))
     -- and at most the granted count (itself at most 8: `asBindAllows`)

@@ -1,53 +1,72 @@
--- A call, whole: from a table, the lent bytes and the room's length to the refusal, or the records and the next table.
+-- A call, whole: from a table, the lent bytes and the room's length to the refusal, or the records and the next table. By a
+-- list of state rows; `step` is the call by the paper's.
 use Prim.Native.Nat.{ℕ}
 use mathlib.Core.Bool.{Bool, true, false, not}
-use mathlib.Core.List.{List, [], _∷_}
+use mathlib.Core.List.{List}
+use lib.ListN.{take}
 use lib.Dec.{ltb}
 use Rattle.ledger.specs.Choice.{_⇒_∣_}
-use Rattle.paper.specs.Base.{Table, slot}
-use Rattle.paper.specs.RecordsIn.{inputOf, macIn, calledIn, callingIn, addressIn, messageIn}
-use Rattle.paper.specs.RecordsOut.{up}
-use Rattle.paper.specs.Refusals.{littleRoom, notOpen, noCode, overLong, notARecord, notSound, Outcome, refused, served}
+use Rattle.octets.specs.Runs.{sameBytes}
+use Rattle.paper.specs.Base.{Table, slot, knows, macOf}
+use Rattle.paper.specs.RecordsIn.{inputOf, macIn, calledIn, messageIn}
+use Rattle.paper.specs.Refusals.{littleRoom, notOpen, noCode, overLong, unexpected, nobodyThere, busy, notARecord, notSound, Outcome, refused, served}
+use Rattle.paper.specs.Saps.{listener, isListenedFor}
+use Rattle.paper.specs.Correlations.{nextNumber}
 use Rattle.paper.specs.Sound.{sound}
 use Rattle.paper.specs.Messages.{codeIn, askedBy}
-use Rattle.paper.specs.ErrorCodes.{errorOf}
-use Rattle.paper.specs.ErrorOrder.{verdictOn}
-use Rattle.paper.specs.Rows.{performed}
-use Rattle.paper.specs.Events.{callArrives, peerAccepted, peerGone, callWithdrawn, peerReset, resetConfirmed}
 use Rattle.paper.specs.Openings.{addsPpa, opens, closes}
+use Rattle.paper.specs.StateRows.{stateRows}
+use Rattle.paper.specs.Sight.{Coming, sends, brings, Sight, sightOf, carrierAt}
+use Rattle.paper.specs.Effects.{enacted, told}
+use Rattle.paper.specs.Decide.{Decision, refuses, does, decide}
+use Rattle.paper.specs.declared.PpaNumber.{PpaNumber}
 use Rattle.paper.specs.declared.Input.{Input}
 use Rattle.paper.specs.declared.Input.the-variants as input
-use Rattle.paper.specs.declared.Verdict.{Verdict}
-use Rattle.paper.specs.declared.Verdict.the-variants.{Serves, Fails}
-use Rattle.paper.specs.declared.Reply.the-variants as reply
+use Rattle.paper.specs.declared.StateRow.{StateRow}
+use Rattle.paper.specs.declared.Event.the-variants as event
 
--- A message comes to an ERROR_ACK, which changes nothing, or to the row that serves it.
-unfoldable pub answered : Table → ℕ → List ℕ → Verdict → Outcome
-answered t i m (Fails r) = served t (up i (reply.ErrorAck (codeIn m) (errorOf r)) [] ∷ [])
-answered t i m (Serves r) = performed t i m r
+-- A decision on what came to stream i with these bytes, enacted.
+unfoldable pub enact : Table → ℕ → List ℕ → Sight → Decision → Outcome
+enact t i m s (refuses n) = refused t n
+enact t i m s (does e) =
+    served (enacted t i (carrierAt i (s .answer .carrier)) m e)
+    (told i (carrierAt i (s .answer .carrier)) (s .own) (s .mac) m e)
+
+-- What comes to stream i is decided from what it sees.
+unfoldable pub comes : List StateRow → Table → ℕ → List ℕ → Coming → Outcome
+comes rows t i m c = enact t i m (sightOf rows t i c) (decide (sightOf rows t i c) c)
 
 -- Refusal 2 comes first of all that is said of a stream.
 unfoldable pub ofOpen : Table → ℕ → Outcome → Outcome
 ofOpen t i o = not (slot t i .isOpen) ⇒ refused t notOpen ∣ o
 
--- then 5, then 4
-unfoldable pub message : Table → ℕ → ℕ → List ℕ → Outcome
-message t i l m = ltb 96 l ⇒ refused t overLong ∣ ltb l 4 ⇒ refused t noCode ∣ answered t i m (verdictOn t i (askedBy m))
+-- A message: 5, then 4.
+unfoldable pub message : List StateRow → Table → ℕ → ℕ → List ℕ → Outcome
+message rows t i l m =
+    ltb 96 l ⇒ refused t overLong ∣ ltb l 4 ⇒ refused t noCode ∣ comes rows t i m (sends (codeIn m) (askedBy m))
+
+-- I comes to the listener for its PPA and SAP, with the next number: 7, then 8.
+unfoldable pub arrives : List StateRow → Table → PpaNumber → ℕ → List ℕ → Outcome
+arrives rows t p sap r =
+    not (knows t p) ⇒ refused t nobodyThere
+    ∣ not (sameBytes (take 6 (calledIn r)) (macOf t p)) ⇒ refused t nobodyThere
+    ∣ not (isListenedFor t p sap) ⇒ refused t nobodyThere
+    ∣ comes rows t (listener t p sap) r (brings busy (event.Arrives (record { 0 = nextNumber t })))
 
 -- a readable record r, in room enough
-abbrev pub serve : Table → List ℕ → Input → Outcome
-serve t r input.Unreadable = refused t notARecord
-serve t r input.Padded = refused t notARecord
-serve t r (input.AddPpa p) = addsPpa t p (macIn r)
-serve t r input.Open = opens t
-serve t r (input.Close i) = ofOpen t i (closes t i)
-serve t r (input.Message i l) = ofOpen t i (message t i l (messageIn r l))
-serve t r (input.CallArrives p sap) = callArrives t p sap (calledIn r) (callingIn r)
-serve t r (input.PeerAccepted i) = ofOpen t i (peerAccepted t i (addressIn r))
-serve t r (input.PeerGone i reason) = ofOpen t i (peerGone t i reason)
-serve t r (input.CallWithdrawn i n reason) = ofOpen t i (callWithdrawn t i n reason)
-serve t r (input.PeerReset i reason) = ofOpen t i (peerReset t i reason)
-serve t r (input.ResetConfirmed i) = ofOpen t i (resetConfirmed t i)
+abbrev pub serveBy : List StateRow → Table → List ℕ → Input → Outcome
+serveBy rows t r input.Unreadable = refused t notARecord
+serveBy rows t r input.Padded = refused t notARecord
+serveBy rows t r (input.AddPpa p) = addsPpa t p (macIn r)
+serveBy rows t r input.Open = opens t
+serveBy rows t r (input.Close i) = ofOpen t i (closes t i)
+serveBy rows t r (input.Message i l) = ofOpen t i (message rows t i l (messageIn r l))
+serveBy rows t r (input.CallArrives p sap) = arrives rows t p sap r
+serveBy rows t r (input.PeerAccepted i) = ofOpen t i (comes rows t i r (brings unexpected event.Accepted))
+serveBy rows t r (input.PeerGone i reason) = ofOpen t i (comes rows t i r (brings unexpected (event.Gone reason)))
+serveBy rows t r (input.CallWithdrawn i n reason) = ofOpen t i (comes rows t i r (brings unexpected (event.Withdrawn n reason)))
+serveBy rows t r (input.PeerReset i reason) = ofOpen t i (comes rows t i r (brings unexpected (event.Resets reason)))
+serveBy rows t r (input.ResetConfirmed i) = ofOpen t i (comes rows t i r (brings unexpected event.Confirmed))
 
 abbrev pub isReadable : Input → Bool
 isReadable input.Unreadable = false
@@ -64,9 +83,12 @@ isReadable (input.PeerReset i reason) = true
 isReadable (input.ResetConfirmed i) = true
 
 -- Order of tests: 16, 10, 1, 2, 5, 4, then the rest. A call needs 128 bytes of room, however little it writes.
-unfoldable pub step : Table → List ℕ → ℕ → Outcome
-step t r room =
+unfoldable pub stepBy : List StateRow → Table → List ℕ → ℕ → Outcome
+stepBy rows t r room =
     not (sound t) ⇒ refused t notSound
     ∣ not (isReadable (inputOf r)) ⇒ refused t notARecord
     ∣ ltb room 128 ⇒ refused t littleRoom
-    ∣ serve t r (inputOf r)
+    ∣ serveBy rows t r (inputOf r)
+
+abbrev pub step : Table → List ℕ → ℕ → Outcome
+step = stepBy stateRows

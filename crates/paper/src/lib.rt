@@ -1,6 +1,6 @@
-// The rule paper's quantities, states, requests, rules, rows and records, as values. What each means stands in specs/.
+// The rule paper's quantities, states, requests, rules, state rows, effects and records, as values. What each means stands in specs/.
 ghost use mathlib.Core.Path.{_≡_};
-ghost use Rattle.paper.specs.Base.{numberOf};
+ghost use Rattle.paper.specs.Base.{numberOf, stateOf};
 
 // What the paper calls unlike quantities: no one can stand for another.
 pub struct Token(pub u32);
@@ -39,6 +39,22 @@ pub fn number_of(q: State) -> u8
         State::DataXfer => 11,
         State::UserResetPending => 12,
         State::ProvResetPending => 13,
+    }
+}
+
+// The state with a number: Unattached for a number that is no state's.
+pub fn state_of(n: u8) -> State
+    ensures { λ r. ⌜ r ≡ stateOf n ⌝ }
+{
+    match n {
+        3 => State::Unbound,
+        6 => State::Idle,
+        8 => State::OutconPending,
+        9 => State::InconPending,
+        11 => State::DataXfer,
+        12 => State::UserResetPending,
+        13 => State::ProvResetPending,
+        _ => State::Unattached,
     }
 }
 
@@ -200,8 +216,8 @@ pub enum Carrier {
     None,
 }
 
-// The rows that serve, with the values that they need.
-pub enum Row {
+// What serves a request, with the values that it needs.
+pub enum Service {
     Inform,
     Attach(PpaNumber),
     Detach,
@@ -210,9 +226,7 @@ pub enum Row {
     Unbind,
     // where the address begins in the message
     Connect(u8),
-    AcceptHere(Correlation),
-    // the carrying stream
-    AcceptOn(Correlation, u8),
+    Accept(Correlation),
     TellToken,
     // the reason
     Deny(Correlation, u32),
@@ -223,18 +237,58 @@ pub enum Row {
 
 // What the order of errors comes to.
 pub enum Verdict {
-    Serves(Row),
+    Serves(Service),
     Fails(Rule),
 }
 
-// Orders to the line, each with its stream first.
-pub enum LineOrder {
-    Connect(u8),
-    Accept(u8, Correlation),
+// A state row: on a stream in this state and mode (0 while it is unbound), what comes (a request's code or an event's
+// letter) leads to a state, and to another where the last open indication goes with it.
+pub struct StateRow {
+    pub from: u8,
+    pub mode: u8,
+    pub cause: u8,
+    pub to: u8,
+    pub last: u8,
+}
+
+// A stream's row for what comes.
+pub enum Found {
+    At(StateRow),
+    Missing,
+}
+
+// What the line brings to a stream.
+pub enum Event {
+    // a call, with the number that its indication takes
+    Arrives(Correlation),
+    Accepted,
     // the reason
-    Disconnect(u8, Correlation, u32),
-    Reset(u8),
-    ResetAnswer(u8),
+    Gone(u32),
+    Withdrawn(Correlation, u32),
+    Resets(u32),
+    Confirmed,
+}
+
+// What becomes of a stream.
+pub enum Change {
+    Stays,
+    // its open indications are kept
+    Becomes(Stream),
+    // one more, the youngest: the counter then stands one past its number
+    Takes(Stream, Correlation),
+    // one less, and the state where it was the last
+    Loses(Stream, Correlation, State),
+}
+
+// Orders to the line. The stream that an order names is not part of it.
+pub enum LineOrder {
+    // where the called address begins in the message
+    Connect(u8),
+    Accept(Correlation),
+    // the reason
+    Disconnect(Correlation, u32),
+    Reset,
+    ResetAnswer,
 }
 
 // Messages up.
@@ -253,4 +307,25 @@ pub enum Reply {
     DisconnectInd(u32, Correlation),
     ResetInd(u32),
     ResetCon,
+}
+
+// What a call tells the line.
+pub enum Telling {
+    Untold,
+    Tells(LineOrder),
+}
+
+// What a call says to its stream's user.
+pub enum Saying {
+    Unsaid,
+    Says(Reply),
+}
+
+// What a served call does. It names no stream: `carries` is whether the stream that the token names goes to 11.
+pub struct Effect {
+    pub change: Change,
+    pub carries: bool,
+    pub order: Telling,
+    pub flush: bool,
+    pub up: Saying,
 }

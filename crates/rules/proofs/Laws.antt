@@ -9,8 +9,7 @@ use borrow.Author.Tests.{eqb-true, ltb-true, leb-true, lt-ltb}
 use Rattle.ledger.specs.Choice.{both, either}
 use Rattle.ledger.specs.Tally.{oneIf, occ, has}
 use Rattle.ledger.proofs.Tallies.{both-of}
-use Rattle.paper.specs.Base.{numberOf}
-use Rattle.paper.specs.Rows.{everyState}
+use Rattle.paper.specs.Base.{numberOf, everyState}
 use Rattle.paper.specs.Saps.{isSap, isType, reservedTypes}
 use Rattle.paper.specs.declared.State.{State}
 use Rattle.paper.specs.declared.State.the-variants.{Unattached, Unbound, Idle, OutconPending, InconPending, DataXfer, UserResetPending, ProvResetPending}

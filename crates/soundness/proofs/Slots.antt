@@ -14,15 +14,14 @@ use Rattle.ledger.proofs.Tallies.{both-of, to-both, chosen, all-at, empty, both
 use Rattle.octets.specs.Numbers.{be32At}
 use Rattle.octets.specs.Runs.{part, allZero}
 use Rattle.octets.proofs.Laws.{be32At-be32, zero-replicate}
-use Rattle.paper.specs.Base.{numberOf, isIn, noStream, Slot, closed, Table, slot, ppaNumbers, noPpa}
+use Rattle.paper.specs.Base.{numberOf, isIn, noStream, Slot, closed, Table, slot, ppaNumbers, noPpa, stateOf, everyState}
 use Rattle.paper.specs.Sound.{every, unbound, holdsNothing, openTests, soundSlot, isSingle, isAlone, remembersOpenings, soundTests, sound}
 use Rattle.paper.specs.Correlations.{occurrences}
-use Rattle.paper.specs.Rows.{everyState}
 use Rattle.paper.specs.declared.State.{State}
 use Rattle.paper.specs.declared.State.the-variants.{Unattached, Unbound, Idle, OutconPending, InconPending, DataXfer, UserResetPending, ProvResetPending}
 use Rattle.paper.specs.declared.Stream.{Stream}
 use Rattle.paper.specs.declared.Ppa.{Ppa}
-use Rattle.image.specs.Layout.{ppaBase, slotBase, slotParts, stateOf, ppaFrom, ppaAt, tableOf, streamBytes, waitingBytes, slotBytes, headerBytes, joined, imageOf, isState, tidy, soundImage}
+use Rattle.image.specs.Layout.{ppaBase, slotBase, slotParts, ppaFrom, ppaAt, tableOf, streamBytes, waitingBytes, slotBytes, headerBytes, joined, imageOf, isState, tidy, soundImage}
 use Rattle.image.specs.Lent.{Lent}
 use Rattle.image.proofs.Joined.{listed-at, joined-at}
 use Rattle.image.proofs.Shapes.{slots-wide, header-length}

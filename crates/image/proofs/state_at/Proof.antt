@@ -1,8 +1,8 @@
 use mathlib.Core.Path.{sym, ap, _∙_}
 use native.Mathlib.Omega.{arith}
 use denote.Ref.{now}
-use Rattle.paper.specs.Base.{Slot}
-use Rattle.image.specs.Layout.{slotBase, stateOf, streamFrom, slotAt}
+use Rattle.paper.specs.Base.{Slot, stateOf}
+use Rattle.image.specs.Layout.{slotBase, streamFrom, slotAt}
 use Rattle.image.proofs.Joined.{part-byte}
 use Rattle.image.proofs.TableBack.{slot-at}
 use borrow.Author.Needs.{needs}

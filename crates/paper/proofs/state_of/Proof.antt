@@ -1,8 +1,8 @@
 use borrow.Author.Tests.{ne-eqb}
 use Rattle.ledger.specs.Choice.{_⇒_∣_}
-use Rattle.image.specs.Layout.{stateOf}
-use Rattle.image.proofs.state_of.Statement.{statement}
-use Rattle.image.proofs.state_of.Tie as tie
+use Rattle.paper.specs.Base.{stateOf}
+use Rattle.paper.proofs.state_of.Statement.{statement}
+use Rattle.paper.proofs.state_of.Tie as tie
 
 returns : tie.Need-returns
 unfolding stateOf _⇒_∣_

@@ -1,0 +1,184 @@
+-- 'State rows', what each does: a served call does one thing to one stream, as a value. The table after it, and the records
+-- that it writes.
+use Prim.Native.Nat.{ℕ}
+use mathlib.Core.Bool.{Bool, true, false, not}
+use mathlib.Core.List.{List, [], _∷_, _++_}
+use lib.Dec.{eqb}
+use Rattle.ledger.specs.Choice.{pick}
+use Rattle.ledger.specs.Tally.{without}
+use Rattle.octets.specs.Runs.{part}
+use Rattle.paper.specs.Base.{stateOf, isIn, isAmong, joinedStates, attachedIn, settled, Slot, Table, stream, waiting, withCalls, withStream, withCounter}
+use Rattle.paper.specs.RecordsIn.{addressIn, calledIn, callingIn}
+use Rattle.paper.specs.Replies.{addressOf, infoTail}
+use Rattle.paper.specs.RecordsOut.{Record, order, up, flushIf, inOrder}
+use Rattle.paper.specs.Correlations.{onePast}
+use Rattle.paper.specs.ErrorCodes.{errorOf}
+use Rattle.paper.specs.declared.State.{State}
+use Rattle.paper.specs.declared.State.the-variants.{DataXfer}
+use Rattle.paper.specs.declared.PpaNumber.{PpaNumber}
+use Rattle.paper.specs.declared.Correlation.{Correlation}
+use Rattle.paper.specs.declared.Token.{Token}
+use Rattle.paper.specs.declared.Stream.{Stream}
+use Rattle.paper.specs.declared.Service.{Service}
+use Rattle.paper.specs.declared.Service.the-variants as service
+use Rattle.paper.specs.declared.Rule.{Rule}
+use Rattle.paper.specs.declared.StateRow.{StateRow}
+use Rattle.paper.specs.declared.Event.{Event}
+use Rattle.paper.specs.declared.Event.the-variants as event
+use Rattle.paper.specs.declared.Change.{Change}
+use Rattle.paper.specs.declared.Change.the-variants.{Stays, Becomes, Takes, Loses}
+use Rattle.paper.specs.declared.LineOrder.{LineOrder}
+use Rattle.paper.specs.declared.LineOrder.the-variants as lineOrder
+use Rattle.paper.specs.declared.Telling.{Telling}
+use Rattle.paper.specs.declared.Telling.the-variants.{Untold, Tells}
+use Rattle.paper.specs.declared.Reply.{Reply}
+use Rattle.paper.specs.declared.Reply.the-variants as reply
+use Rattle.paper.specs.declared.Saying.{Saying}
+use Rattle.paper.specs.declared.Saying.the-variants.{Unsaid, Says}
+use Rattle.paper.specs.declared.Effect.{Effect}
+
+-- ---- the table after an effect on stream i, where stream c carries
+
+-- A listener that loses an open indication goes to another state at the last one,
+abbrev pub standing : State → Stream → List ℕ → Stream
+standing last s [] = settled last s
+standing last s (n ∷ l) = s
+
+unfoldable pub changed : Table → ℕ → Change → Table
+changed t i Stays = t
+changed t i (Becomes s) = withStream t i s
+changed t i (Takes s n) = withCalls (withCounter t (onePast (n .0))) i s (waiting t i ++ (n .0 ∷ []))
+changed t i (Loses s n last) = withCalls t i (standing last s (without (n .0) (waiting t i))) (without (n .0) (waiting t i))
+
+-- unless it carries the call itself: the carrying stream goes to 11.
+unfoldable pub carried : Table → ℕ → Bool → Table
+carried t c false = t
+carried t c true = withStream t c (settled DataXfer (stream t c))
+
+-- (No effect holds bytes: what a table is to keep of the message m lies in m.)
+unfoldable pub enacted : Table → ℕ → ℕ → List ℕ → Effect → Table
+enacted t i c m e = carried (changed t i (e .change)) c (e .carries)
+
+-- ---- its records, where m is the message, or the record of the event
+
+-- the stream that an order names
+abbrev pub namedBy : ℕ → ℕ → LineOrder → ℕ
+namedBy i c (lineOrder.Connect at) = i
+namedBy i c (lineOrder.Accept n) = c
+namedBy i c (lineOrder.Disconnect n reason) = i
+namedBy i c lineOrder.Reset = i
+namedBy i c lineOrder.ResetAnswer = i
+
+-- What stands behind an order of the stream with this slot. The address is handed on as that part of the message.
+abbrev pub behindOrder : Slot → List ℕ → LineOrder → List ℕ
+behindOrder own m (lineOrder.Connect at) = part m at 7
+behindOrder own m (lineOrder.Accept n) = []
+behindOrder own m (lineOrder.Disconnect n reason) = []
+behindOrder own m lineOrder.Reset = []
+behindOrder own m lineOrder.ResetAnswer = []
+
+unfoldable pub ordersIn : ℕ → ℕ → Slot → List ℕ → Telling → List Record
+ordersIn i c own m Untold = []
+ordersIn i c own m (Tells o) = order (namedBy i c o) o (behindOrder own m o) ∷ []
+
+-- what stands behind the fields of a message up
+unfoldable pub behindReply : List ℕ → List ℕ → Reply → List ℕ
+behindReply mac m (reply.InfoAck s) = infoTail mac s
+behindReply mac m (reply.BindAck sap granted) = addressOf mac sap
+behindReply mac m (reply.ErrorAck code error) = []
+behindReply mac m (reply.OkAck code) = []
+behindReply mac m (reply.ConnectInd n) = calledIn m ++ callingIn m
+behindReply mac m reply.ConnectCon = addressIn m
+behindReply mac m (reply.TokenAck k) = []
+behindReply mac m (reply.DisconnectInd reason n) = []
+behindReply mac m (reply.ResetInd reason) = []
+behindReply mac m reply.ResetCon = []
+
+unfoldable pub upsIn : ℕ → List ℕ → List ℕ → Saying → List Record
+upsIn i mac m Unsaid = []
+upsIn i mac m (Says r) = up i r (behindReply mac m r) ∷ []
+
+-- Within a call the line order comes first, then F, then the message up.
+unfoldable pub told : ℕ → ℕ → Slot → List ℕ → List ℕ → Effect → List Record
+told i c own mac m e = inOrder (ordersIn i c own m (e .order)) (flushIf (e .flush) i) (upsIn i mac m (e .up))
+
+-- ---- what becomes of a stream by row x
+
+abbrev pub next : StateRow → State
+next x = stateOf (x .to)
+
+-- it goes to the row's next state
+abbrev pub onward : StateRow → Stream → Change
+onward x s = Becomes (settled (next x) s)
+
+-- unchanged, where the row leads to its own state
+abbrev pub unchanged : StateRow → Stream → Change
+unchanged x s = pick (eqb (x .to) (x .from)) Stays (onward x s)
+
+-- one open indication more, or less
+abbrev pub more : StateRow → Stream → Correlation → Change
+more x s n = Takes (settled (next x) s) n
+
+abbrev pub less : StateRow → Stream → Correlation → Change
+less x s n = Loses (settled (next x) s) n (stateOf (x .last))
+
+-- bound
+abbrev pub boundIn : State → PpaNumber → ℕ → ℕ → ℕ → Stream
+boundIn q p mode sap granted = record { state = q; mode = mode; sap = sap; ppa = p; granted = granted }
+
+-- ---- the effects
+
+-- of one stream alone
+abbrev pub acting : Change → Telling → Bool → Saying → Effect
+acting c o f u = record { change = c; carries = false; order = o; flush = f; up = u }
+
+-- An ERROR_ACK changes nothing.
+abbrev pub errorEffect : ℕ → Rule → Effect
+errorEffect code r = acting Stays Untold false (Says (reply.ErrorAck code (errorOf r)))
+
+-- A request with a reply gets INFO_ACK, BIND_ACK, TOKEN_ACK or else OK_ACK.
+abbrev pub ok : StateRow → Saying
+ok x = Says (reply.OkAck (x .cause))
+
+abbrev pub noNumber : Correlation
+noNumber = record { 0 = 0 }
+
+-- a; the carrying stream goes to 11
+abbrev pub accepting : StateRow → Stream → Correlation → Effect
+accepting x s n = record { change = less x s n; carries = true; order = Tells (lineOrder.Accept n); flush = false; up = ok x }
+
+-- Row x serves a request of the stream with token k, which stands as s.
+unfoldable pub effectOf : StateRow → Token → Stream → Service → Effect
+effectOf x k s service.Inform = acting (unchanged x s) Untold false (Says (reply.InfoAck s))
+effectOf x k s service.TellToken = acting (unchanged x s) Untold false (Says (reply.TokenAck k))
+effectOf x k s (service.Attach p) = acting (Becomes (attachedIn (next x) p)) Untold false (ok x)
+effectOf x k s service.Detach = acting (onward x s) Untold false (ok x)
+effectOf x k s (service.Bind mode sap granted) =
+    acting (Becomes (boundIn (next x) (s .ppa) mode sap granted)) Untold false (Says (reply.BindAck sap granted))
+-- with F
+effectOf x k s service.Unbind = acting (onward x s) Untold true (ok x)
+-- c, no reply
+effectOf x k s (service.Connect at) = acting (onward x s) (Tells (lineOrder.Connect at)) false Unsaid
+effectOf x k s (service.Accept n) = accepting x s n
+-- d; F in the last three
+effectOf x k s (service.Deny n reason) = acting (less x s n) (Tells (lineOrder.Disconnect n reason)) false (ok x)
+effectOf x k s (service.Disconnect reason) =
+    acting (onward x s) (Tells (lineOrder.Disconnect noNumber reason)) (isAmong joinedStates s) (ok x)
+-- r, no reply; s
+effectOf x k s service.Reset = acting (onward x s) (Tells lineOrder.Reset) false Unsaid
+effectOf x k s service.ResetRes = acting (onward x s) (Tells lineOrder.ResetAnswer) false (ok x)
+
+-- What the line brings to a stream that stands as s, by row x.
+unfoldable pub eventEffect : StateRow → Stream → Event → Effect
+-- I: CONNECT_IND
+eventEffect x s (event.Arrives n) = acting (more x s n) Untold false (Says (reply.ConnectInd n))
+-- A: CONNECT_CON
+eventEffect x s event.Accepted = acting (onward x s) Untold false (Says reply.ConnectCon)
+-- D: F except from 8, DISCONNECT_IND, correlation 0
+eventEffect x s (event.Gone reason) = acting (onward x s) Untold (not (isIn 8 s)) (Says (reply.DisconnectInd reason noNumber))
+-- W: DISCONNECT_IND with the number
+eventEffect x s (event.Withdrawn n reason) = acting (less x s n) Untold false (Says (reply.DisconnectInd reason n))
+-- R: F, RESET_IND
+eventEffect x s (event.Resets reason) = acting (onward x s) Untold true (Says (reply.ResetInd reason))
+-- S: F, RESET_CON
+eventEffect x s event.Confirmed = acting (onward x s) Untold true (Says reply.ResetCon)
