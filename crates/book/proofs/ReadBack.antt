@@ -33,15 +33,15 @@ use Rattle.book.proofs.Said.{orderLine, replyLine, lineOf}
 
 -- the bytes behind an order: an address of a connect, none else
 abbrev behind : LineOrder → ℕ
-behind (lineOrder.Connect i) = 7
-behind (lineOrder.Accept c n) = 0
-behind (lineOrder.Disconnect i n reason) = 0
-behind (lineOrder.Reset i) = 0
-behind (lineOrder.ResetAnswer i) = 0
+behind (lineOrder.Connect at) = 7
+behind (lineOrder.Accept n) = 0
+behind (lineOrder.Disconnect n reason) = 0
+behind lineOrder.Reset = 0
+behind lineOrder.ResetAnswer = 0
 
 -- a record of its size
 abbrev pub Sized : Record → Type 0
-Sized (order o called) = length called ≡ behind o
+Sized (order i o called) = length called ≡ behind o
 Sized (flush i) = 0 ≤ 0
 Sized (up i r tail) = length (fieldsOf r) * 4 + length tail ≤ 96
 
@@ -57,13 +57,13 @@ record Told (r : Record) (rest : List ℕ) : Type 0 where
   size : sizeOut kind ≡ length (bytesOf r)
   some : eqb (sizeOut kind) 0 ≡ false
 
-told-order : (o : LineOrder) (called rest : List ℕ) → length called ≡ behind o → Told (order o called) rest
+told-order : (i : ℕ) (o : LineOrder) (called rest : List ℕ) → length called ≡ behind o → Told (order i o called) rest
 unfolding sizeOut _⇒_∣_
-told-order (lineOrder.Connect i) called rest h = record { kind = 99; others = _; form = refl; size = omega arith; some = refl }
-told-order (lineOrder.Accept c n) called rest h = record { kind = 97; others = _; form = refl; size = omega arith; some = refl }
-told-order (lineOrder.Disconnect i n reason) called rest h = record { kind = 100; others = _; form = refl; size = omega arith; some = refl }
-told-order (lineOrder.Reset i) called rest h = record { kind = 114; others = _; form = refl; size = omega arith; some = refl }
-told-order (lineOrder.ResetAnswer i) called rest h = record { kind = 115; others = _; form = refl; size = omega arith; some = refl }
+told-order i (lineOrder.Connect at) called rest h = record { kind = 99; others = _; form = refl; size = omega arith; some = refl }
+told-order i (lineOrder.Accept n) called rest h = record { kind = 97; others = _; form = refl; size = omega arith; some = refl }
+told-order i (lineOrder.Disconnect n reason) called rest h = record { kind = 100; others = _; form = refl; size = omega arith; some = refl }
+told-order i lineOrder.Reset called rest h = record { kind = 114; others = _; form = refl; size = omega arith; some = refl }
+told-order i lineOrder.ResetAnswer called rest h = record { kind = 115; others = _; form = refl; size = omega arith; some = refl }
 
 up-size : (i : ℕ) (r : Reply) (tail : List ℕ) → length (fieldsOf r) * 4 + length tail ≤ 96 → length (bytesOf (up i r tail)) ≡ 99
 unfolding contentOf
@@ -79,7 +79,7 @@ kind-size false = refl
 
 told : (r : Record) (rest : List ℕ) → Sized r → Told r rest
 unfolding sizeOut _⇒_∣_
-told (order o called) rest h = told-order o called rest h
+told (order i o called) rest h = told-order i o called rest h
 told (flush i) rest h = record { kind = 70; others = _; form = refl; size = refl; some = refl }
 told (up i r tail) rest h = record { kind = pick (goesAsC r) 67 80; others = _; form = refl; size = kind-size (goesAsC r) ∙ sym (up-size i r tail h); some = ap (λ (n : ℕ). eqb n 0) (kind-size (goesAsC r)) }
 
@@ -126,13 +126,13 @@ end-said i n e = go (eqb n 0)
     go true = refl
     go false = refl
 
-order-said : (q : Input) (o : LineOrder) (called rest : List ℕ) → lineAt q (bytesOf (order o called) ++ rest) ≡ orderLine q o
+order-said : (q : Input) (i : ℕ) (o : LineOrder) (called rest : List ℕ) → lineAt q (bytesOf (order i o called) ++ rest) ≡ orderLine q i o
 unfolding lineAt _⇒_∣_
-order-said q (lineOrder.Connect i) called rest = refl
-order-said q (lineOrder.Accept c n) called rest = ap (λ (m : ℕ). Went (asker q) m Accepted) (back (n .0))
-order-said q (lineOrder.Disconnect i n reason) called rest = ap (λ (m : ℕ). endLine i m (parting q)) (back (n .0)) ∙ end-said i (n .0) (parting q)
-order-said q (lineOrder.Reset i) called rest = refl
-order-said q (lineOrder.ResetAnswer i) called rest = refl
+order-said q i (lineOrder.Connect at) called rest = refl
+order-said q i (lineOrder.Accept n) called rest = ap (λ (m : ℕ). Went (asker q) m Accepted) (back (n .0))
+order-said q i (lineOrder.Disconnect n reason) called rest = ap (λ (m : ℕ). endLine i m (parting q)) (back (n .0)) ∙ end-said i (n .0) (parting q)
+order-said q i lineOrder.Reset called rest = refl
+order-said q i lineOrder.ResetAnswer called rest = refl
 
 reply-said : (q : Input) (i : ℕ) (r : Reply) (tail rest : List ℕ) → lineAt q (bytesOf (up i r tail) ++ rest) ≡ replyLine i r
 unfolding lineAt upLine contentOf _⇒_∣_
@@ -149,7 +149,7 @@ reply-said q i reply.ResetCon tail rest = refl
 
 record-said : (q : Input) (r : Record) (rest : List ℕ) → lineAt q (bytesOf r ++ rest) ≡ lineOf q r
 unfolding lineAt _⇒_∣_
-record-said q (order o called) rest = order-said q o called rest
+record-said q (order i o called) rest = order-said q i o called rest
 record-said q (flush i) rest = refl
 record-said q (up i r tail) rest = reply-said q i r tail rest
 
@@ -161,17 +161,17 @@ lines-said q (r ∷ rs) = ap (λ (y : Line). y ∷ map (lineAt q) (starts rs)) (
 
 -- An a for a message says that the asker's was accepted,
 pub accept-line : (i l c : ℕ) (n : Correlation) (rest : List ℕ)
-    → lineAt (input.Message i l) (bytesOf (order (lineOrder.Accept c n) []) ++ rest) ≡ Went i (n .0) Accepted
-accept-line i l c n rest = order-said (input.Message i l) (lineOrder.Accept c n) [] rest
+    → lineAt (input.Message i l) (bytesOf (order c (lineOrder.Accept n) []) ++ rest) ≡ Went i (n .0) Accepted
+accept-line i l c n rest = order-said (input.Message i l) c (lineOrder.Accept n) [] rest
 
 -- a d with a number other than 0 for a message that it was denied, for a close that it was dropped,
 pub denial-line : (i l j : ℕ) (n : Correlation) (reason : ℕ) (rest : List ℕ) → eqb (n .0) 0 ≡ false
-    → lineAt (input.Message i l) (bytesOf (order (lineOrder.Disconnect j n reason) []) ++ rest) ≡ Went j (n .0) Denied
-denial-line i l j n reason rest h = order-said (input.Message i l) (lineOrder.Disconnect j n reason) [] rest ∙ ap (λ (b : Bool). pick b Nothing (Went j (n .0) Denied)) h
+    → lineAt (input.Message i l) (bytesOf (order j (lineOrder.Disconnect n reason) []) ++ rest) ≡ Went j (n .0) Denied
+denial-line i l j n reason rest h = order-said (input.Message i l) j (lineOrder.Disconnect n reason) [] rest ∙ ap (λ (b : Bool). pick b Nothing (Went j (n .0) Denied)) h
 
 pub drop-line : (i j : ℕ) (n : Correlation) (reason : ℕ) (rest : List ℕ) → eqb (n .0) 0 ≡ false
-    → lineAt (input.Close i) (bytesOf (order (lineOrder.Disconnect j n reason) []) ++ rest) ≡ Went j (n .0) Dropped
-drop-line i j n reason rest h = order-said (input.Close i) (lineOrder.Disconnect j n reason) [] rest ∙ ap (λ (b : Bool). pick b Nothing (Went j (n .0) Dropped)) h
+    → lineAt (input.Close i) (bytesOf (order j (lineOrder.Disconnect n reason) []) ++ rest) ≡ Went j (n .0) Dropped
+drop-line i j n reason rest h = order-said (input.Close i) j (lineOrder.Disconnect n reason) [] rest ∙ ap (λ (b : Bool). pick b Nothing (Went j (n .0) Dropped)) h
 
 -- and a DISCONNECT_IND with one that it was withdrawn.
 pub withdrawal-line : (q : Input) (i reason : ℕ) (n : Correlation) (rest : List ℕ) → eqb (n .0) 0 ≡ false

@@ -14,12 +14,12 @@ use Rattle.paper.specs.declared.LineOrder.the-variants as lineOrder
 use Rattle.paper.specs.declared.Reply.{Reply}
 use Rattle.paper.specs.declared.Reply.the-variants as reply
 
-abbrev pub orderLine : Input → LineOrder → Line
-orderLine q (lineOrder.Connect i) = Nothing
-orderLine q (lineOrder.Accept c n) = Went (asker q) (n .0) Accepted
-orderLine q (lineOrder.Disconnect i n reason) = pick (eqb (n .0) 0) Nothing (Went i (n .0) (parting q))
-orderLine q (lineOrder.Reset i) = Nothing
-orderLine q (lineOrder.ResetAnswer i) = Nothing
+abbrev pub orderLine : Input → ℕ → LineOrder → Line
+orderLine q i (lineOrder.Connect at) = Nothing
+orderLine q i (lineOrder.Accept n) = Went (asker q) (n .0) Accepted
+orderLine q i (lineOrder.Disconnect n reason) = pick (eqb (n .0) 0) Nothing (Went i (n .0) (parting q))
+orderLine q i lineOrder.Reset = Nothing
+orderLine q i lineOrder.ResetAnswer = Nothing
 
 abbrev pub replyLine : ℕ → Reply → Line
 replyLine i (reply.InfoAck s) = Nothing
@@ -34,7 +34,7 @@ replyLine i (reply.ResetInd reason) = Nothing
 replyLine i reply.ResetCon = Nothing
 
 abbrev pub lineOf : Input → Record → Line
-lineOf q (order o called) = orderLine q o
+lineOf q (order i o called) = orderLine q i o
 lineOf q (flush i) = Nothing
 lineOf q (up i r tail) = replyLine i r
 

@@ -1,2 +1,3 @@
 pub mod Examples
 pub mod Sizes
+pub mod StateNumbers

@@ -1,6 +1,13 @@
 // The rule paper's quantities, states, requests, rules, state rows, effects and records, as values. What each means stands in specs/.
+mod states;
+
 ghost use mathlib.Core.Path.{_≡_};
 ghost use Rattle.paper.specs.Base.{numberOf, stateOf};
+pub use states::holds_binding;
+pub use states::is_calling;
+pub use states::is_connection;
+pub use states::is_joined;
+pub use states::tells_binding;
 
 // What the paper calls unlike quantities: no one can stand for another.
 pub struct Token(pub u32);

@@ -11,7 +11,7 @@ use Rattle.ledger.specs.Choice.{pick}
 use Rattle.octets.specs.Runs.{part, paste, over}
 use Rattle.octets.specs.Blocks.{flat, pad}
 use Rattle.octets.proofs.Laws.{paste-join, flat-length}
-use Rattle.paper.specs.Base.{isBound}
+use Rattle.paper.specs.Base.{isAmong, toldStates}
 use Rattle.paper.specs.Replies.{infoOf, fieldsOf, contentOf}
 use Rattle.paper.specs.RecordsOut.{up, bytesOf}
 use Rattle.paper.specs.declared.Stream.{Stream}
@@ -60,7 +60,7 @@ pick-length false x y n e f = f
 
 info-length : (q : Stream) → length (infoOf q) ≡ 18
 unfolding infoOf
-info-length q = pick-length (isBound q) _ _ 18 refl refl
+info-length q = pick-length (isAmong toldStates q) _ _ 18 refl refl
 
 -- INFO_ACK has the most fields
 fields-few : (r : Reply) → length (fieldsOf r) ≤ 19

@@ -7,7 +7,7 @@ ghost use lib.ListN.{length};
 ghost use Rattle.ledger.specs.Choice.{pick};
 ghost use Rattle.octets.specs.Runs.{over};
 ghost use Rattle.octets.specs.Blocks.{flat, pad};
-ghost use Rattle.paper.specs.Base.{isBound};
+ghost use Rattle.paper.specs.Base.{isAmong, toldStates};
 ghost use Rattle.paper.specs.Replies.{addressOf, sapLength, infoFields, infoTail};
 ghost use Rattle.paper.specs.RecordsOut.{order, up, bytesOf, allBytes, flushIf, messageBytes};
 use paper::Correlation;
@@ -29,7 +29,7 @@ fn put_start(room: &mut [u8], letter: u8, s: u8) -> usize
 // a: carrying stream, correlation.
 fn put_accept(room: &mut [u8], s: u8, c: Correlation) -> usize
     requires { ⌜ 6 ≤ length (now room) ⌝ }
-    ensures { λ n. ⌜ (n ≡ 6) × (now (room .exit) ≡ over (bytesOf (order (LineOrder.Accept s c) [])) (now (room .entry))) ⌝ }
+    ensures { λ n. ⌜ (n ≡ 6) × (now (room .exit) ≡ over (bytesOf (order s (LineOrder.Accept c) [])) (now (room .entry))) ⌝ }
 {
     let at = put_start(room, b'a', s);
     octets::put_number32(room, at, c.0);
@@ -39,7 +39,7 @@ fn put_accept(room: &mut [u8], s: u8, c: Correlation) -> usize
 // d: stream, correlation, reason.
 fn put_disconnect(room: &mut [u8], s: u8, c: Correlation, reason: u32) -> usize
     requires { ⌜ 10 ≤ length (now room) ⌝ }
-    ensures { λ n. ⌜ (n ≡ 10) × (now (room .exit) ≡ over (bytesOf (order (LineOrder.Disconnect s c reason) [])) (now (room .entry))) ⌝ }
+    ensures { λ n. ⌜ (n ≡ 10) × (now (room .exit) ≡ over (bytesOf (order s (LineOrder.Disconnect c reason) [])) (now (room .entry))) ⌝ }
 {
     let at = put_start(room, b'd', s);
     octets::put_number32(room, at, c.0);
@@ -48,23 +48,23 @@ fn put_disconnect(room: &mut [u8], s: u8, c: Correlation, reason: u32) -> usize
 }
 
 // An order that carries no address.
-pub fn put_order(room: &mut [u8], o: LineOrder) -> usize
+pub fn put_order(room: &mut [u8], s: u8, o: LineOrder) -> usize
     requires { ⌜ 10 ≤ length (now room) ⌝ }
-    ensures { λ n. ⌜ (n ≡ length (bytesOf (order o []))) × (n ≤ 10) × (now (room .exit) ≡ over (bytesOf (order o [])) (now (room .entry))) ⌝ }
+    ensures { λ n. ⌜ (n ≡ length (bytesOf (order s o []))) × (n ≤ 10) × (now (room .exit) ≡ over (bytesOf (order s o [])) (now (room .entry))) ⌝ }
 {
     match o {
-        LineOrder::Connect(s) => put_start(room, b'c', s),
-        LineOrder::Accept(s, c) => put_accept(room, s, c),
-        LineOrder::Disconnect(s, c, reason) => put_disconnect(room, s, c, reason),
-        LineOrder::Reset(s) => put_start(room, b'r', s),
-        LineOrder::ResetAnswer(s) => put_start(room, b's', s),
+        LineOrder::Connect(_) => put_start(room, b'c', s),
+        LineOrder::Accept(c) => put_accept(room, s, c),
+        LineOrder::Disconnect(c, reason) => put_disconnect(room, s, c, reason),
+        LineOrder::Reset => put_start(room, b'r', s),
+        LineOrder::ResetAnswer => put_start(room, b's', s),
     }
 }
 
 // c: stream, called address.
-pub fn put_connect(room: &mut [u8], s: u8, called: &[u8]) -> usize
+pub fn put_connect(room: &mut [u8], s: u8, at: u8, called: &[u8]) -> usize
     requires { ⌜ (length (now called) ≤ 7) × (9 ≤ length (now room)) ⌝ }
-    ensures { λ n. ⌜ (n ≡ length (bytesOf (order (LineOrder.Connect s) (now (called .entry))))) × (n ≤ 9) × (now (room .exit) ≡ over (bytesOf (order (LineOrder.Connect s) (now (called .entry)))) (now (room .entry))) ⌝ }
+    ensures { λ n. ⌜ (n ≡ length (bytesOf (order s (LineOrder.Connect at) (now (called .entry))))) × (n ≤ 9) × (now (room .exit) ≡ over (bytesOf (order s (LineOrder.Connect at) (now (called .entry)))) (now (room .entry))) ⌝ }
 {
     let at = put_start(room, b'c', s);
     octets::put_bytes(room, at, called);
@@ -95,12 +95,12 @@ fn put_message(room: &mut [u8], letter: u8, s: u8, fields: &[u32], tail: &[u8]) 
     99
 }
 
-// A stream is bound from state 6 on.
-fn is_bound(q: Stream) -> bool
-    ensures { λ r. ⌜ r ≡ isBound q ⌝ }
+// The stream's state is one in which INFO_ACK tells its binding.
+fn tells_binding(q: Stream) -> bool
+    ensures { λ r. ⌜ r ≡ isAmong toldStates q ⌝ }
 {
     let state = q.state;
-    6 <= paper::number_of(state)
+    paper::tells_binding(state)
 }
 
 // 1 byte of SAP or 2 of Ethernet type.
@@ -162,7 +162,7 @@ fn put_info(room: &mut [u8], s: u8, q: Stream, tail: &[u8]) -> usize
 {
     let state = q.state;
     let number = paper::number_of(state);
-    if !is_bound(q) {
+    if !tells_binding(q) {
         return put_info_fields(room, s, number, 0, 0, 3, 0, tail);
     }
     let size = sap_length(q.sap);
@@ -228,9 +228,9 @@ fn put_address(room: &mut [u8], mac: [u8; 6], sap: u16) -> usize
 // The address of a stream, if it is bound.
 fn put_bound_address(room: &mut [u8], q: Stream, mac: [u8; 6]) -> usize
     requires { ⌜ 8 ≤ length (now room) ⌝ }
-    ensures { λ n. ⌜ (n ≡ length (pick (isBound q) (addressOf mac (q .sap)) [])) × (n ≤ 8) × (now (room .exit) ≡ over (pick (isBound q) (addressOf mac (q .sap)) []) (now (room .entry))) ⌝ }
+    ensures { λ n. ⌜ (n ≡ length (pick (isAmong toldStates q) (addressOf mac (q .sap)) [])) × (n ≤ 8) × (now (room .exit) ≡ over (pick (isAmong toldStates q) (addressOf mac (q .sap)) []) (now (room .entry))) ⌝ }
 {
-    if is_bound(q) {
+    if tells_binding(q) {
         return put_address(room, mac, q.sap);
     }
     0

@@ -7,7 +7,7 @@ use mathlib.Core.Path.{_≡_, ap, _∙_}
 use mathlib.Core.List.{List, [], _++_}
 use lib.ListN.{length, replicate}
 use Rattle.octets.specs.Runs.{part, over}
-use Rattle.paper.specs.Base.{isBound}
+use Rattle.paper.specs.Base.{isAmong, toldStates}
 use Rattle.ledger.specs.Choice.{pick}
 use Rattle.paper.specs.Replies.{addressOf, infoTail}
 use Rattle.paper.specs.RecordsOut.{up, bytesOf}
@@ -22,7 +22,7 @@ returns c =
     let m = c .before .before .put-up .ensures in
     let p = c .before .before .before .before .before .before .before .put-bound-address in
     let a = c .before .before .before .before .before .before .before .before .before .before .args in
-    let address = pick (isBound (a .q)) (addressOf (a .mac) (a .q .sap)) [] in
+    let address = pick (isAmong toldStates (a .q)) (addressOf (a .mac) (a .q .sap)) [] in
     let tail : part (p .last .0) 0 (p .result + 6 - 0) ≡ infoTail (a .mac) (a .q) =
     over-begins address (replicate 14 255) (p .result + 6 - 0) 6 (p .ensures .2) (omega arith)
     ∙ ap (λ (t : List ℕ). address ++ t) (replicate-part 14 (length address) 6 255 (omega arith)) in
