@@ -4,10 +4,9 @@ ghost use mathlib.Core.List.{[], _∷_, _++_};
 ghost use Prim.Native.Nat.{suc, _+_, _<_, _≤_};
 ghost use lib.Dec.{eqb};
 ghost use lib.ListN.{length, getD, take, drop};
-ghost use Rattle.ledger.specs.Tally.{occ, without, firstOf, free};
+ghost use Rattle.ledger.specs.Tally.{occ, has, without, firstOf, free};
 ghost use Rattle.octets.specs.Runs.{paste};
 ghost use Rattle.paper.specs.Base.{Slot, waiting, withCalls};
-ghost use Rattle.paper.specs.ErrorOrder.{isWaiting};
 ghost use Rattle.paper.specs.Correlations.{occurrences, nextNumber};
 ghost use Rattle.image.specs.Layout.{slotBase, tableOf, joined, streamBytes, waitingBytes, imageOf};
 ghost use Rattle.image.specs.Lent.{Lent};
@@ -42,7 +41,7 @@ fn place_of(img: &[u8], i: usize, n: Correlation) -> usize
 // A number is open on a stream.
 pub fn is_waiting(img: &[u8], i: usize, n: Correlation) -> bool
     requires { ⌜ (i < 16) × (length (now img) ≡ 760) × Lent (now img) ⌝ }
-    ensures { λ r. ⌜ r ≡ isWaiting (tableOf (now (img .entry))) i n ⌝ }
+    ensures { λ r. ⌜ r ≡ has (n .0) (waiting (tableOf (now (img .entry))) i) ⌝ }
 {
     let count = image::count_at(img, i) as usize;
     place_of(img, i, n) < count

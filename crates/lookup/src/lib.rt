@@ -7,7 +7,7 @@ ghost use Rattle.ledger.specs.Choice.{either};
 ghost use Rattle.ledger.specs.Tally.{firstOf};
 ghost use Rattle.paper.specs.Base.{stream, noPpa, knows, macOf};
 ghost use Rattle.paper.specs.Saps.{listens, listener, isListenedFor};
-ghost use Rattle.paper.specs.ErrorOrder.{carrierOf};
+ghost use Rattle.paper.specs.Sight.{carrierOf};
 ghost use Rattle.paper.specs.declared.Ppa.{Ppa};
 ghost use Rattle.image.specs.Layout.{tableOf};
 ghost use Rattle.image.specs.Lent.{Lent};

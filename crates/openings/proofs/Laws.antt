@@ -75,11 +75,11 @@ goodbyes-long i (n ∷ w) = omega (arith, goodbyes-long i w)
 
 -- one more, with the number at the next place
 pub goodbyes-next : (i k : ℕ) (w : List ℕ) (c : Correlation) → k < length w → c ≡ record { 0 = getD w k 0 }
-    → allBytes (map (goodbye i) (take k w)) ++ bytesOf (order (lineOrder.Disconnect i c 0) []) ≡ allBytes (map (goodbye i) (take (k + 1) w))
+    → allBytes (map (goodbye i) (take k w)) ++ bytesOf (order i (lineOrder.Disconnect c 0) []) ≡ allBytes (map (goodbye i) (take (k + 1) w))
 goodbyes-next i k w c h e =
     let z : suc k ≡ k + 1 = omega arith in
     let old : List Record = map (goodbye i) (take k w) in
-    ap (λ (q : Correlation). allBytes old ++ bytesOf (order (lineOrder.Disconnect i q 0) [])) e
+    ap (λ (q : Correlation). allBytes old ++ bytesOf (order i (lineOrder.Disconnect q 0) [])) e
     ∙ ap (λ (b : List ℕ). allBytes old ++ b) (sym (one-record (goodbye i (getD w k 0))))
     ∙ sym (all-append old (goodbye i (getD w k 0) ∷ []))
     ∙ ap allBytes (sym (map-append (goodbye i) (take k w) (getD w k 0 ∷ [])))

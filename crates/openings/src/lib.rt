@@ -60,7 +60,7 @@ fn put_denials(img: &[u8], room: &mut [u8], i: u8) -> usize
     let mut k: usize = 0;
     while k < count {
         let c = calls::call_at(img, at, k);
-        replies::put_order(&mut room[k * 10..], LineOrder::Disconnect(i, c, 0));
+        replies::put_order(&mut room[k * 10..], i, LineOrder::Disconnect(c, 0));
         k += 1;
     }
     count * 10
@@ -71,13 +71,12 @@ fn put_goodbyes(img: &[u8], room: &mut [u8], i: u8) -> usize
     requires { ⌜ (i < 16) × (length (now img) ≡ 760) × Lent (now img) × (128 ≤ length (now room)) ⌝ }
     ensures { λ n. ⌜ (n ≡ length (allBytes (goodbyes i (slot (tableOf (now (img .entry))) i)))) × (n ≤ 80) × (now (room .exit) ≡ over (allBytes (goodbyes i (slot (tableOf (now (img .entry))) i))) (now (room .entry))) ⌝ }
 {
-    let s = image::load_stream(img, i as usize);
-    let state = s.state;
+    let state = image::state_at(img, i as usize);
     if paper::number_of(state) == 9 {
         return put_denials(img, room, i);
     }
-    if rules::is_calling(s) {
-        return replies::put_order(room, LineOrder::Disconnect(i, Correlation(0), 0));
+    if paper::is_calling(state) {
+        return replies::put_order(room, i, LineOrder::Disconnect(Correlation(0), 0));
     }
     0
 }

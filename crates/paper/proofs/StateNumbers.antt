@@ -34,3 +34,7 @@ joined-from = each-number (λ n. leb 11 n ≡ has n joinedStates) refl refl refl
 
 pub calling-from : (q : State) → has (numberOf q) callingStates ≡ either (eqb (numberOf q) 8) (has (numberOf q) joinedStates)
 calling-from = each-number (λ n. has n callingStates ≡ either (eqb n 8) (has n joinedStates)) refl refl refl refl refl refl refl refl
+
+-- What is no binding is none in mode 1.
+pub not-bound : (q : State) → has (numberOf q) boundStates ≡ false → has (numberOf q) connectionStates ≡ false
+not-bound = each-number (λ n. has n boundStates ≡ false → has n connectionStates ≡ false) (λ e. refl) (λ e. refl) (λ e. refl) (λ e. e) (λ e. e) (λ e. e) (λ e. e) (λ e. e)

@@ -12,7 +12,7 @@ use Rattle.ledger.specs.Tally.{oneIf, occ, allOf}
 use Rattle.ledger.proofs.Tallies.{chosen, empty}
 use Rattle.paper.specs.Base.{Slot, closed, Table, slot, stream, waiting, ppaNumbers}
 use Rattle.paper.specs.Correlations.{occurrences, nextNumber}
-use Rattle.paper.specs.ErrorOrder.{carrierOf, judgeOther, judgeItself, judgeCarrier, judgeAccept, judgeDenial, judgeDisconnect, isWaiting, judgeServed, judge}
+use Rattle.paper.specs.ErrorOrder.{judgeOther, judgeItself, judgeCarrier, judgeAccept, judgeDenial, judgeDisconnect, isWaiting, judgeServed, judge}
 use Rattle.paper.specs.Events.{callWithdrawn, rings, heardBy, callArrives}
 use Rattle.paper.specs.Openings.{goodbye, goodbyes, closes}
 use Rattle.paper.specs.RecordsIn.{inputOf, messageIn}
@@ -57,6 +57,7 @@ use Rattle.book.proofs.Marks.{marked}
 use Rattle.promises.proofs.Demand3.{once-on-a-stream}
 use Rattle.promises.proofs.Refused.{refusal-is-all}
 use Rattle.promises.proofs.Tested.{sound-test}
+use Rattle.paper.specs.Sight.{carrierOf}
 
 -- ---- of a message: by the verdict on it
 

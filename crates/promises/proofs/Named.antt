@@ -11,7 +11,7 @@ use Rattle.ledger.specs.Tally.{has}
 use Rattle.ledger.proofs.Tallies.{chosen, to-both}
 use Rattle.paper.specs.Base.{number, isIn, Table, stream, waiting}
 use Rattle.paper.specs.ErrorCodes.{badCorr}
-use Rattle.paper.specs.ErrorOrder.{carrierOf, judgeOther, judgeItself, judgeCarrier, judgeAccept, judgeDenial, judgeDisconnect, isWaiting, judgeServed, judge}
+use Rattle.paper.specs.ErrorOrder.{judgeOther, judgeItself, judgeCarrier, judgeAccept, judgeDenial, judgeDisconnect, isWaiting, judgeServed, judge}
 use Rattle.paper.specs.Rows.{statesOf, ofModeOne, hasRow}
 use Rattle.paper.specs.declared.Carrier.{Carrier}
 use Rattle.paper.specs.declared.Carrier.the-variants.{Itself, Other, None}
@@ -23,6 +23,7 @@ use Rattle.paper.specs.declared.Request.the-variants as request
 use Rattle.paper.specs.declared.Verdict.{Verdict}
 use Rattle.promises.proofs.OutState.{gets}
 use Rattle.promises.specs.Soundness.{Sound}
+use Rattle.paper.specs.Sight.{carrierOf}
 
 module _ (t : Table) (s : ℕ) (k : Sound t) (e : isIn 9 (stream t s) ≡ true) where
   pub row-nine : (q : Request) → has 9 (statesOf q) ≡ true → hasRow (stream t s) q ≡ true

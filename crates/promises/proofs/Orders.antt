@@ -13,7 +13,7 @@ use Rattle.ledger.specs.Tally.{occ, has, allOf}
 use Rattle.ledger.proofs.Tallies.{chosen, to-both, both-of, picked}
 use Rattle.octets.specs.Numbers.{be32At}
 use Rattle.paper.specs.Base.{isIn, Table, stream, waiting}
-use Rattle.paper.specs.ErrorOrder.{judgeAttach, judgeListening, judgeBind, judgeConnect, carrierOf, judgeOther, judgeItself, judgeCarrier, judgeAccept, judgeDenial, judgeDisconnect, isWaiting, judgeServed, judge, verdictOn}
+use Rattle.paper.specs.ErrorOrder.{judgeAttach, judgeListening, judgeBind, judgeConnect, judgeOther, judgeItself, judgeCarrier, judgeAccept, judgeDenial, judgeDisconnect, isWaiting, judgeServed, judge, verdictOn}
 use Rattle.paper.specs.Events.{eventRow, peerAccepted, peerGone, callWithdrawn, peerReset, resetConfirmed, rings, heardBy, callArrives}
 use Rattle.paper.specs.Messages.{codeIn, askedBy}
 use Rattle.paper.specs.Openings.{addsPpa, opens, goodbye, goodbyes, closes}
@@ -53,6 +53,7 @@ use Rattle.promises.proofs.Letters.{Letter, letter}
 use Rattle.promises.proofs.Openings.{Door, door-step}
 use Rattle.paper.specs.declared.State.{State}
 use Rattle.paper.specs.declared.Reply.the-variants as reply
+use Rattle.paper.specs.Sight.{carrierOf}
 
 either-right : (a b : Bool) → b ≡ true → either a b ≡ true
 either-right true b h = refl

@@ -15,7 +15,7 @@ use Rattle.paper.specs.RecordsIn.{inputOf, messageIn}
 use Rattle.paper.specs.Refusals.{Outcome}
 use Rattle.paper.specs.Rows.{hasRow, performed}
 use Rattle.paper.specs.ErrorCodes.{outState, errorOf}
-use Rattle.paper.specs.ErrorOrder.{judgeAttach, judgeListening, judgeBind, judgeConnect, carrierOf, judgeOther, judgeItself, judgeCarrier, judgeAccept, judgeDenial, judgeDisconnect, isWaiting, judgeServed, judge, verdictOn}
+use Rattle.paper.specs.ErrorOrder.{judgeAttach, judgeListening, judgeBind, judgeConnect, judgeOther, judgeItself, judgeCarrier, judgeAccept, judgeDenial, judgeDisconnect, isWaiting, judgeServed, judge, verdictOn}
 use Rattle.paper.specs.Step.{answered, ofOpen, message, serve, isReadable, step}
 use Rattle.paper.specs.Sound.{sound}
 use Rattle.paper.specs.declared.Asked.{Asked}
@@ -32,6 +32,7 @@ use Rattle.paper.specs.declared.Verdict.the-variants.{Serves, Fails}
 use Rattle.paper.specs.declared.Input.{Input}
 use Rattle.promises.specs.Answers.{Complete, isBusy, offersBusy}
 use Rattle.promises.proofs.ErrorAck.{errorsIn, row-tells}
+use Rattle.paper.specs.Sight.{carrierOf}
 
 -- ---- the verdict on a request
 

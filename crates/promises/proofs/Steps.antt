@@ -31,7 +31,7 @@ use Rattle.book.proofs.Said.{lineOf, said}
 use Rattle.promises.proofs.Sights.{Shows, shows-still, shows-stream, shows-less, shows-more, shows-opens, shows-binds, shows-closes}
 use Rattle.paper.specs.Refusals.{Outcome, served, refused}
 use Rattle.paper.specs.Rows.{statesOf, ofModeOne, hasRow, attachedTo, boundTo, losing, carryingItself, moved, standing, tableAfter, ordersOf, flushes, okAck, repliesTo, performed}
-use Rattle.paper.specs.ErrorOrder.{judgeAttach, judgeListening, judgeBind, judgeConnect, carrierOf, judgeOther, judgeItself, judgeCarrier, judgeAccept, judgeDenial, judgeDisconnect, isWaiting, judgeServed, judge, verdictOn}
+use Rattle.paper.specs.ErrorOrder.{judgeAttach, judgeListening, judgeBind, judgeConnect, judgeOther, judgeItself, judgeCarrier, judgeAccept, judgeDenial, judgeDisconnect, isWaiting, judgeServed, judge, verdictOn}
 use Rattle.paper.specs.Events.{eventRow, peerAccepted, peerGone, callWithdrawn, peerReset, resetConfirmed, ringing, rings, hears, heardBy, callArrives}
 use Rattle.paper.specs.Openings.{addsPpa, opens, goodbye, goodbyes, closes}
 use Rattle.paper.specs.Correlations.{occurrences, nextNumber, onePast}
@@ -67,6 +67,7 @@ use Rattle.calls.proofs.Next.{next-free}
 use Rattle.promises.proofs.Lent.{shaped}
 use Rattle.promises.proofs.Tested.{sound-test}
 use Rattle.promises.proofs.Leaves.{hearing, put-sound, stream-sound, deaf, moved-sound, less-sound, losing-sound, more-sound, remembering-sound, ppa-sound}
+use Rattle.paper.specs.Sight.{carrierOf}
 
 -- ---- what is shown of an outcome, and of a verdict on a message of stream i
 pub record Good (t : Table) (q : Input) (o : Outcome) : Type 0 where

@@ -20,7 +20,7 @@ use Rattle.paper.proofs.Sizes.{info-length}
 use Rattle.paper.specs.RecordsIn.{inputOf, messageIn, calledIn, callingIn}
 use Rattle.paper.specs.Refusals.{Outcome, refused}
 use Rattle.paper.specs.Rows.{ordersOf, flushes, repliesTo, performed}
-use Rattle.paper.specs.ErrorOrder.{judgeAttach, judgeListening, judgeBind, judgeConnect, carrierOf, judgeOther, judgeItself, judgeCarrier, judgeAccept, judgeDenial, judgeDisconnect, judgeServed, judge, verdictOn}
+use Rattle.paper.specs.ErrorOrder.{judgeAttach, judgeListening, judgeBind, judgeConnect, judgeOther, judgeItself, judgeCarrier, judgeAccept, judgeDenial, judgeDisconnect, judgeServed, judge, verdictOn}
 use Rattle.paper.specs.Events.{eventRow, peerAccepted, peerGone, callWithdrawn, peerReset, resetConfirmed, rings, heardBy, callArrives}
 use Rattle.paper.specs.Openings.{addsPpa, opens, goodbye, goodbyes, closes}
 use Rattle.paper.specs.Step.{answered, ofOpen, message, serve, step}
@@ -49,6 +49,7 @@ use Rattle.book.proofs.ReadBack.{AllSized, starts, told-apart, lines-said}
 use Rattle.image.specs.Layout.{joined}
 use Rattle.promises.specs.Answers.{errorAt, errorsTold}
 use Rattle.promises.proofs.ErrorAck.{errorIn, errorsIn}
+use Rattle.paper.specs.Sight.{carrierOf}
 
 -- how far into the message a row reads
 abbrev reach : Row → ℕ

@@ -12,7 +12,7 @@ use Rattle.paper.specs.Base.{isIn, Table, slot}
 use Rattle.paper.specs.Messages.{askedBy}
 use Rattle.paper.specs.RecordsIn.{inputOf, messageIn}
 use Rattle.paper.specs.RecordsOut.{Record}
-use Rattle.paper.specs.ErrorOrder.{carrierOf, isWaiting}
+use Rattle.paper.specs.ErrorOrder.{isWaiting}
 use Rattle.image.specs.Layout.{joined}
 use Rattle.transcript.specs.Transcript.{isMessage}
 use Rattle.book.specs.Lines.{recordsIn}
@@ -22,6 +22,7 @@ use Rattle.paper.specs.declared.Request.{Request}
 use Rattle.paper.specs.declared.Request.the-variants as request
 use Rattle.paper.specs.declared.Carrier.{Carrier}
 use Rattle.paper.specs.declared.Carrier.the-variants.{Itself, Other, None}
+use Rattle.paper.specs.Sight.{carrierOf}
 
 -- ---- answered with DL_ERROR_ACK
 

@@ -1,18 +1,18 @@
 -- Laws of the tests: lists of numbers, state numbers, the bounds that a bind's tests give.
 use Prim.Native.Nat.{ℕ, _+_, _<_}
-use mathlib.Core.Path.{_≡_, refl, ap}
+use mathlib.Core.Path.{_≡_, refl, sym, ap}
 use mathlib.Core.Bool.{Bool, true, false, not}
 use mathlib.Core.List.{List, [], _∷_}
 use lib.Dec.{eqb, ltb, leb}
 use native.Mathlib.Omega.{arith}
 use borrow.Author.Tests.{eqb-true, ltb-true, leb-true, lt-ltb}
-use Rattle.ledger.specs.Choice.{both, either}
+use Rattle.ledger.specs.Choice.{pick, both, either}
 use Rattle.ledger.specs.Tally.{oneIf, occ, has}
 use Rattle.ledger.proofs.Tallies.{both-of}
-use Rattle.paper.specs.Base.{numberOf, everyState}
+use Rattle.paper.specs.Base.{numberOf, boundStates, noStream, attachedIn, inState, settled}
 use Rattle.paper.specs.Saps.{isSap, isType, reservedTypes}
 use Rattle.paper.specs.declared.State.{State}
-use Rattle.paper.specs.declared.State.the-variants.{Unattached, Unbound, Idle, OutconPending, InconPending, DataXfer, UserResetPending, ProvResetPending}
+use Rattle.paper.specs.declared.Stream.{Stream}
 
 -- ---- tests
 pub either-false : (b : Bool) → either b false ≡ b
@@ -39,27 +39,6 @@ has-more n a l = go (eqb n a)
     go true = lt-ltb 0 (1 + occ n l) (omega arith)
     go false = ap (ltb 0) (let z : 0 + occ n l ≡ occ n l = omega arith in z)
 
--- ---- state numbers
--- what holds of the eight numbers holds of a state's
-each-number : (P : ℕ → Type 0) → P 0 → P 3 → P 6 → P 8 → P 9 → P 11 → P 12 → P 13 → (q : State) → P (numberOf q)
-each-number P a b d e f g h i Unattached = a
-each-number P a b d e f g h i Unbound = b
-each-number P a b d e f g h i Idle = d
-each-number P a b d e f g h i OutconPending = e
-each-number P a b d e f g h i InconPending = f
-each-number P a b d e f g h i DataXfer = g
-each-number P a b d e f g h i UserResetPending = h
-each-number P a b d e f g h i ProvResetPending = i
-
-pub in-every : (q : State) → has (numberOf q) everyState ≡ true
-in-every = each-number (λ n. has n everyState ≡ true) refl refl refl refl refl refl refl refl
-
-pub from-8 : (q : State) → leb 8 (numberOf q) ≡ has (numberOf q) (8 ∷ 9 ∷ 11 ∷ 12 ∷ 13 ∷ [])
-from-8 = each-number (λ n. leb 8 n ≡ has n (8 ∷ 9 ∷ 11 ∷ 12 ∷ 13 ∷ [])) refl refl refl refl refl refl refl refl
-
-pub from-11 : (q : State) → leb 11 (numberOf q) ≡ has (numberOf q) (11 ∷ 12 ∷ 13 ∷ [])
-from-11 = each-number (λ n. leb 11 n ≡ has n (11 ∷ 12 ∷ 13 ∷ [])) refl refl refl refl refl refl refl refl
-
 -- ---- what a bind's tests say of its numbers
 pub mode-fits : (n : ℕ) → either (eqb n 1) (eqb n 2) ≡ true → n < 256
 mode-fits n = of-either (eqb n 1) (eqb n 2) (λ e. omega (arith, eqb-true n 1 e)) (λ e. omega (arith, eqb-true n 2 e))
@@ -76,3 +55,7 @@ type-under n e =
 
 pub sap-fits : (n : ℕ) → either (isSap n) (isType n) ≡ true → n < 65536
 sap-fits n = of-either (isSap n) (isType n) (sap-under n) (type-under n)
+
+-- ---- what a stream holds in a state, by the two tests of the state
+pub settled-by : (q : State) (s : Stream) (a b : Bool) → eqb (numberOf q) 0 ≡ a → has (numberOf q) boundStates ≡ b → pick a noStream (pick b (inState q s) (attachedIn q (s .ppa))) ≡ settled q s
+settled-by q s a b e f = rw (sym e, sym f)

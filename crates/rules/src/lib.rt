@@ -1,7 +1,6 @@
-// The order of errors and the rows, by value: what they ask of the table is handed to them.
+// The order of errors by value: what it asks of the table is handed to it; and a stream by value, as it stands after a row.
 mod errors;
 mod order;
-mod rows;
 mod saps;
 mod streams;
 
@@ -11,12 +10,7 @@ pub use order::judge_attach;
 pub use order::judge_bind;
 pub use order::judge_connect;
 pub use order::judge_disconnect;
-pub use rows::flushes;
-pub use rows::has_row;
 pub use saps::as_bind_allows;
-pub use streams::attached_to;
-pub use streams::bound_to;
-pub use streams::hears;
-pub use streams::in_state;
-pub use streams::is_calling;
-pub use streams::no_stream;
+pub use streams::attached_in;
+pub use streams::settled;
+pub use streams::state_number;

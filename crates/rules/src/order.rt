@@ -1,4 +1,4 @@
-// Steps 3 to 7 of the order of errors: the first rule that fails, or the row that serves.
+// Steps 3 to 7 of the order of errors: the first rule that fails, or what serves.
 ghost use Prim.Native.Nat.{_<_};
 ghost use mathlib.Core.Path.{_≡_};
 ghost use lib.Dec.{eqb, ltb};
@@ -16,8 +16,8 @@ use paper::ConnectResponse;
 use paper::Correlation;
 use paper::DisconnectRequest;
 use paper::PpaNumber;
-use paper::Row;
 use paper::Rule;
+use paper::Service;
 use paper::Stream;
 use paper::Verdict;
 
@@ -28,7 +28,7 @@ pub fn judge_attach(p: PpaNumber, known: bool) -> Verdict
     if !known {
         return Verdict::Fails(Rule::UnknownPpa);
     }
-    Verdict::Serves(Row::Attach(p))
+    Verdict::Serves(Service::Attach(p))
 }
 
 // Mode 1 is connection, mode 2 connectionless.
@@ -66,7 +66,7 @@ fn judge_listening(b: BindRequest, listened: bool) -> Verdict
         return Verdict::Fails(Rule::ListenedFor);
     }
     let granted = grant_of(b.mode, b.most);
-    Verdict::Serves(Row::Bind(b.mode as u8, b.sap as u16, granted))
+    Verdict::Serves(Service::Bind(b.mode as u8, b.sap as u16, granted))
 }
 
 // 4. BIND: the mode, the connection management, the XID and TEST that are asked for, the SAP.
@@ -110,12 +110,12 @@ pub fn judge_connect(c: ConnectRequest) -> Verdict
     if c.last % 2 == 1 {
         return Verdict::Fails(Rule::AddressSapOdd);
     }
-    Verdict::Serves(Row::Connect(at as u8))
+    Verdict::Serves(Service::Connect(at as u8))
 }
 
 // 6. CONNECT_RES, where another stream x is to carry the call: one in 6, of the same PPA and in mode 1.
-fn judge_other(s: Stream, n: Correlation, c: u8, x: Stream) -> Verdict
-    ensures { λ r. ⌜ r ≡ judgeOther s n c x ⌝ }
+fn judge_other(s: Stream, n: Correlation, x: Stream) -> Verdict
+    ensures { λ r. ⌜ r ≡ judgeOther s n x ⌝ }
 {
     if state_number(x) != 6 {
         return Verdict::Fails(Rule::CarrierNotIdle);
@@ -126,7 +126,7 @@ fn judge_other(s: Stream, n: Correlation, c: u8, x: Stream) -> Verdict
     if x.mode == 2 {
         return Verdict::Fails(Rule::CarrierConnectionless);
     }
-    Verdict::Serves(Row::AcceptOn(n, c))
+    Verdict::Serves(Service::Accept(n))
 }
 
 // 6. A listener carries its only call itself.
@@ -136,7 +136,7 @@ fn judge_itself(n: Correlation, count: u8) -> Verdict
     if 1 < count {
         return Verdict::Fails(Rule::OthersOpen);
     }
-    Verdict::Serves(Row::AcceptHere(n))
+    Verdict::Serves(Service::Accept(n))
 }
 
 fn judge_carrier(s: Stream, n: Correlation, count: u8, carrier: Carrier) -> Verdict
@@ -145,7 +145,7 @@ fn judge_carrier(s: Stream, n: Correlation, count: u8, carrier: Carrier) -> Verd
     match carrier {
         Carrier::Itself => judge_itself(n, count),
         Carrier::None => Verdict::Fails(Rule::TokenOfNone),
-        Carrier::Other(c, x) => judge_other(s, n, c, x),
+        Carrier::Other(_, x) => judge_other(s, n, x),
     }
 }
 
@@ -177,7 +177,7 @@ fn judge_denial(d: DisconnectRequest, is_open: bool) -> Verdict
         return Verdict::Fails(Rule::DenialNotOpen);
     }
     let n = d.correlation;
-    Verdict::Serves(Row::Deny(n, d.reason))
+    Verdict::Serves(Service::Deny(n, d.reason))
 }
 
 // 7. Elsewhere DISCONNECT_REQ has number 0.
@@ -190,5 +190,5 @@ pub fn judge_disconnect(s: Stream, d: DisconnectRequest, is_open: bool) -> Verdi
     if d.correlation.0 != 0 {
         return Verdict::Fails(Rule::NumberNotZero);
     }
-    Verdict::Serves(Row::Disconnect(d.reason))
+    Verdict::Serves(Service::Disconnect(d.reason))
 }

@@ -5,7 +5,7 @@ use mathlib.Core.List.{List}
 use lib.Dec.{eqb, ltb, leb}
 use Rattle.ledger.specs.Choice.{pick, both, asks}
 use Rattle.ledger.specs.Tally.{occ, has, allOf}
-use Rattle.paper.specs.Base.{number, isIn, isBound, Slot, Table, ppaNumbers}
+use Rattle.paper.specs.Base.{isIn, isAmong, boundStates, connectionStates, Slot, Table, ppaNumbers}
 use Rattle.paper.specs.Saps.{asBindAllows}
 use Rattle.paper.specs.Sound.{every, sameAnswer, unbound, soundSlot, isAlone}
 use Rattle.paper.specs.declared.Stream.{Stream}
@@ -19,7 +19,8 @@ isAttachedRight ppas s = pick (isIn 0 s) (eqb (s .ppa .0) 0) (has (s .ppa .0) pp
 
 -- bound as BIND allows from 6 on, in mode 1 above 6
 unfoldable pub isBoundRight : Stream → Bool
-isBoundRight s = both (pick (isBound s) (asBindAllows s) (every (unbound s))) (asks (ltb 6 (number s)) (eqb (s .mode) 1))
+isBoundRight s =
+    both (pick (isAmong boundStates s) (asBindAllows s) (every (unbound s))) (asks (isAmong connectionStates s) (eqb (s .mode) 1))
 
 -- only state 9 has open indications, at least one and at most the granted count
 unfoldable pub isCountRight : Stream → ℕ → Bool

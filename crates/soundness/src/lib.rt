@@ -18,7 +18,7 @@ use paper::Stream;
 fn is_state(n: u8) -> bool
     ensures { λ r. ⌜ r ≡ isState n ⌝ }
 {
-    let q = image::state_of(n);
+    let q = paper::state_of(n);
     paper::number_of(q) == n
 }
 
@@ -156,14 +156,13 @@ fn is_bound_right(s: Stream) -> bool
     ensures { λ r. ⌜ r ≡ isBoundRight s ⌝ }
 {
     let q = s.state;
-    let n = paper::number_of(q);
-    if n < 6 {
+    if !paper::holds_binding(q) {
         return is_unbound(s);
     }
     if !rules::as_bind_allows(s) {
         return false;
     }
-    if 6 < n {
+    if paper::is_connection(q) {
         return s.mode == 1;
     }
     true

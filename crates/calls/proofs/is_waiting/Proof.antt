@@ -1,6 +1,5 @@
 use borrow.Author.Needs.{needs}
 use denote.Ref.{now}
-use Rattle.paper.specs.ErrorOrder.{isWaiting}
 use Rattle.paper.specs.Base.{waiting}
 use Rattle.image.specs.Layout.{tableOf}
 use Rattle.calls.proofs.Laws.{has-first}
@@ -8,7 +7,6 @@ use Rattle.calls.proofs.is_waiting.Statement.{statement}
 use Rattle.calls.proofs.is_waiting.Tie as tie
 
 returns : tie.Need-returns
-unfolding isWaiting
 returns c =
     let a = c .before .before .before .args in
     rw (c .place-of .ensures, c .before .count-at .ensures) (has-first (a .n .0) (waiting (tableOf (now (a .img))) (a .i)))

@@ -7,10 +7,9 @@ use lib.ListN.{length}
 use borrow.Author.Tests.{ltb-true}
 use borrow.Author.Needs.{needs}
 use denote.Ref.{now}
-use Rattle.ledger.specs.Tally.{occ, without}
+use Rattle.ledger.specs.Tally.{occ, without, has}
 use Rattle.ledger.proofs.Tallies.{length-without}
 use Rattle.paper.specs.Base.{Table, waiting}
-use Rattle.paper.specs.ErrorOrder.{isWaiting}
 use Rattle.paper.specs.declared.Correlation.{Correlation}
 use Rattle.image.specs.Layout.{tableOf}
 use Rattle.calls.proofs.Laws.{without-none}
@@ -18,8 +17,7 @@ use Rattle.calls.proofs.remaining.Statement.{statement}
 use Rattle.calls.proofs.remaining.Tie as tie
 
 -- a number that is open is one of the list's
-one-fewer : (t : Table) (i : ℕ) (n : Correlation) → isWaiting t i n ≡ true → suc (length (without (n .0) (waiting t i))) ≡ length (waiting t i)
-unfolding isWaiting
+one-fewer : (t : Table) (i : ℕ) (n : Correlation) → has (n .0) (waiting t i) ≡ true → suc (length (without (n .0) (waiting t i))) ≡ length (waiting t i)
 one-fewer t i n h = length-without (n .0) (waiting t i) (ltb-true 0 (occ (n .0) (waiting t i)) h)
 
 sub-result : tie.Need-sub-result
@@ -33,7 +31,6 @@ returns c =
     omega (arith, c .before .before .count-at .ensures, one-fewer (tableOf (now (a .img))) (a .i) (a .n) (sym (c .before .is-waiting .ensures) ∙ c .if1 .taken))
 
 returns-2 : tie.Need-returns-2
-unfolding isWaiting
 returns-2 c =
     let a = c .before .before .before .before .args in
     c .before .before .count-at .ensures

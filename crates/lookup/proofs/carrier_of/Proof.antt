@@ -6,7 +6,7 @@ use borrow.Author.Needs.{needs}
 use borrow.Author.Tests.{eqb-false}
 use Rattle.ledger.specs.Choice.{_⇒_∣_}
 use Rattle.ledger.proofs.Tallies.{either-no}
-use Rattle.paper.specs.ErrorOrder.{carrierOf}
+use Rattle.paper.specs.Sight.{carrierOf}
 use Rattle.image.specs.Layout.{tableOf}
 use Rattle.lookup.proofs.Laws.{open-within}
 use Rattle.lookup.proofs.carrier_of.Statement.{statement}

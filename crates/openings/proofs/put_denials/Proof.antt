@@ -43,7 +43,7 @@ loop-again c =
       omega arith,
       l .loop .inv .1,
       search needs,
-      over-next old (bytesOf (order (lineOrder.Disconnect (a .i) (call .result) 0) [])) (now (a .room)) (l .loop .k * 10) (l .loop .inv .3) size
+      over-next old (bytesOf (order (a .i) (lineOrder.Disconnect (call .result) 0) [])) (now (a .room)) (l .loop .k * 10) (l .loop .inv .3) size
           (c .before .before .put-order .ensures .2)
           ∙ ap (λ (b : List ℕ). over b (now (a .room))) (goodbyes-next (a .i) (l .loop .k) w (call .result) (omega (arith, count .ensures)) (call .ensures)),
     )
