@@ -43,7 +43,7 @@ number s = numberOf (s .state)
 abbrev pub isIn : ℕ → Stream → Bool
 isIn n s = eqb (number s) n
 
--- ---- the states by what a stream holds in them: they are asked by these lists, never by their order
+-- ---- the states by what a stream holds in them: definitions ask by these lists, never by the order of the numbers
 
 abbrev pub isAmong : List ℕ → Stream → Bool
 isAmong states s = has (number s) states
@@ -56,11 +56,11 @@ everyState = 0 ∷ 3 ∷ 6 ∷ 8 ∷ 9 ∷ 11 ∷ 12 ∷ 13 ∷ []
 abbrev pub boundStates : List ℕ
 boundStates = 6 ∷ 8 ∷ 9 ∷ 11 ∷ 12 ∷ 13 ∷ []
 
--- a binding that INFO_ACK tells
+-- a binding that INFO_ACK tells (a list of its own: a bind that waits would be held and not yet told)
 abbrev pub toldStates : List ℕ
 toldStates = boundStates
 
--- a binding in mode 1: the states above 6
+-- a binding in mode 1 and in no other: the states above 6
 abbrev pub connectionStates : List ℕ
 connectionStates = 8 ∷ 9 ∷ 11 ∷ 12 ∷ 13 ∷ []
 

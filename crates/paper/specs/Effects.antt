@@ -39,7 +39,8 @@ use Rattle.paper.specs.declared.Effect.{Effect}
 
 -- ---- the table after an effect on stream i, where stream c carries
 
--- A listener that loses an open indication goes to another state at the last one,
+-- A listener that loses an open indication goes to 6 at the last one (the row's last state), unless it carries the call
+-- itself: then it goes on to 11, as any stream that carries.
 abbrev pub standing : State → Stream → List ℕ → Stream
 standing last s [] = settled last s
 standing last s (n ∷ l) = s
@@ -50,12 +51,12 @@ changed t i (Becomes s) = withStream t i s
 changed t i (Takes s n) = withCalls (withCounter t (onePast (n .0))) i s (waiting t i ++ (n .0 ∷ []))
 changed t i (Loses s n last) = withCalls t i (standing last s (without (n .0) (waiting t i))) (without (n .0) (waiting t i))
 
--- unless it carries the call itself: the carrying stream goes to 11.
+-- The carrying stream goes to 11.
 unfoldable pub carried : Table → ℕ → Bool → Table
 carried t c false = t
 carried t c true = withStream t c (settled DataXfer (stream t c))
 
--- (No effect holds bytes: what a table is to keep of the message m lies in m.)
+-- An effect holds no bytes: what the table were to keep of a message would be taken from m. (The base keeps nothing.)
 unfoldable pub enacted : Table → ℕ → ℕ → List ℕ → Effect → Table
 enacted t i c m e = carried (changed t i (e .change)) c (e .carries)
 
@@ -69,7 +70,8 @@ namedBy i c (lineOrder.Disconnect n reason) = i
 namedBy i c lineOrder.Reset = i
 namedBy i c lineOrder.ResetAnswer = i
 
--- What stands behind an order of the stream with this slot. The address is handed on as that part of the message.
+-- What stands behind an order: bytes of the message m, or of what the stream's own slot keeps. (The base has c alone with
+-- any: the address is handed on as that part of the message.)
 abbrev pub behindOrder : Slot → List ℕ → LineOrder → List ℕ
 behindOrder own m (lineOrder.Connect at) = part m at 7
 behindOrder own m (lineOrder.Accept n) = []
@@ -136,14 +138,14 @@ acting c o f u = record { change = c; carries = false; order = o; flush = f; up 
 abbrev pub errorEffect : ℕ → Rule → Effect
 errorEffect code r = acting Stays Untold false (Says (reply.ErrorAck code (errorOf r)))
 
--- A request with a reply gets INFO_ACK, BIND_ACK, TOKEN_ACK or else OK_ACK.
+-- A request with a reply gets INFO_ACK, BIND_ACK, TOKEN_ACK or else OK_ACK, which has the request's code: the row's cause.
 abbrev pub ok : StateRow → Saying
 ok x = Says (reply.OkAck (x .cause))
 
 abbrev pub noNumber : Correlation
 noNumber = record { 0 = 0 }
 
--- a; the carrying stream goes to 11
+-- CONNECT_RES: the listener loses the indication, and the stream that the token names carries the call
 abbrev pub accepting : StateRow → Stream → Correlation → Effect
 accepting x s n = record { change = less x s n; carries = true; order = Tells (lineOrder.Accept n); flush = false; up = ok x }
 
@@ -159,8 +161,9 @@ effectOf x k s (service.Bind mode sap granted) =
 effectOf x k s service.Unbind = acting (onward x s) Untold true (ok x)
 -- c, no reply
 effectOf x k s (service.Connect at) = acting (onward x s) (Tells (lineOrder.Connect at)) false Unsaid
+-- a
 effectOf x k s (service.Accept n) = accepting x s n
--- d; F in the last three
+-- d; F from 11, 12, 13
 effectOf x k s (service.Deny n reason) = acting (less x s n) (Tells (lineOrder.Disconnect n reason)) false (ok x)
 effectOf x k s (service.Disconnect reason) =
     acting (onward x s) (Tells (lineOrder.Disconnect noNumber reason)) (isAmong joinedStates s) (ok x)

@@ -63,6 +63,10 @@ judgeConnect c =
     ∣ eqb (c .last % 2) 1 ⇒ Fails rule.AddressSapOdd
     ∣ Serves (service.Connect (c .offset))
 
+-- 6. Token 0 or one's own means this stream: with more than one open, PENDING.
+unfoldable pub judgeItself : Correlation → ℕ → Verdict
+judgeItself n count = ltb 1 count ⇒ Fails rule.OthersOpen ∣ Serves (service.Accept n)
+
 -- 6. The token names another stream: that stream not in state 6, OUTSTATE; another PPA or mode 2, ACCESS.
 unfoldable pub judgeOther : Stream → Correlation → Stream → Verdict
 judgeOther s n x =
@@ -70,10 +74,6 @@ judgeOther s n x =
     ∣ not (eqb (x .ppa .0) (s .ppa .0)) ⇒ Fails rule.CarrierOfOtherPpa
     ∣ eqb (x .mode) 2 ⇒ Fails rule.CarrierConnectionless
     ∣ Serves (service.Accept n)
-
--- 6. Token 0 or one's own means this stream: with more than one open, PENDING.
-unfoldable pub judgeItself : Correlation → ℕ → Verdict
-judgeItself n count = ltb 1 count ⇒ Fails rule.OthersOpen ∣ Serves (service.Accept n)
 
 -- 6. Token of no open stream, BADTOKEN.
 unfoldable pub judgeCarrier : Stream → Correlation → ℕ → Carrier → Verdict

@@ -112,7 +112,7 @@ sightBy t i row q = record { own = slot t i; token = tokenOf i; mac = macAt t i;
 abbrev pub sightOf : List StateRow → Table → ℕ → Coming → Sight
 sightOf rows t i c = sightBy t i (found rows (stream t i) (askingOf c .cause)) (askingOf c .question)
 
--- the stream that carries a call of stream i: the one that the token names
+-- the stream that carries a call of stream i: the one that the token names, and i where none is asked for
 abbrev pub carrierAt : ℕ → Carrier → ℕ
 carrierAt i Itself = i
 carrierAt i (Other c x) = c
