@@ -30,6 +30,7 @@ use Rattle.octets.specs.Runs.{over, sameBytes}
 use Rattle.paper.specs.Base.{Table, fresh}
 use Rattle.paper.specs.RecordsOut.{allBytes}
 use Rattle.paper.specs.Refusals.{Outcome}
+use Rattle.paper.specs.Step.{step}
 use Rattle.transcript.specs.Transcript.{title, totals}
 use Rattle.book.specs.declared.Line.{Line}
 use Rattle.book.specs.Lines.{linesOf as saidBy}
@@ -59,8 +60,8 @@ abbrev said : Table → List (List ℕ) → List Line
 said t [] = []
 said t (r ∷ l) = saidBy r (step t r 128 .opened) (allBytes (step t r 128 .records)) ++ said (step t r 128 .table) l
 
-abbrev told : List Line → List ℕ
-told ys = heading ++ allText ys blank ++ closing (enteredAll ys blank)
+abbrev account : List Line → List ℕ
+account ys = heading ++ allText ys blank ++ closing (enteredAll ys blank)
 """
 
 
@@ -122,7 +123,7 @@ def text_claim(name):
 def fates_claim(name):
     """That the capture prints its fates."""
     records = " ∷ ".join([antt_bytes(record) for record in lent(assembled(name))] + ["[]"])
-    return f"sameBytes (told (said fresh ({records}))) {antt_bytes((TOP / 'captures' / (name + '.fates')).read_bytes())}"
+    return f"sameBytes (account (said fresh ({records}))) {antt_bytes((TOP / 'captures' / (name + '.fates')).read_bytes())}"
 
 
 def claims_by_file():

@@ -1,3 +1,4 @@
 pub mod Examples
 pub mod Sizes
 pub mod StateNumbers
+pub mod StateTable

@@ -1,2 +1,1 @@
--- Laws of rows that this crate's proofs cite.
 mod Laws

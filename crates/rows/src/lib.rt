@@ -1,182 +1,178 @@
-// What a row does that serves a message: the table's change, the order to the line, F, the reply.
+// The state rows in code, and a stream's row for what comes. No list is walked, and none is held: the cause leads to its row,
+// or, where it has several, the state and the mode lead to the one that can be meant; that row's state and mode are tested.
 ghost use mathlib.Core.Path.{_≡_};
-ghost use mathlib.Core.List.{[], _∷_};
-ghost use Prim.Native.Nat.{_<_, _≤_};
-ghost use lib.ListN.{length};
-ghost use Rattle.octets.specs.Runs.{part, over};
-ghost use Rattle.paper.specs.RecordsOut.{order, up, allBytes};
-ghost use Rattle.paper.specs.Rows.{losing, carryingItself, moved, tableAfter, ordersOf, repliesTo, performed};
-ghost use Rattle.paper.specs.declared.LineOrder.the-variants as lineOrder;
-ghost use Rattle.paper.specs.declared.Row.the-variants as row;
-ghost use Rattle.paper.specs.declared.State.the-variants as state;
-ghost use Rattle.image.specs.Layout.{tableOf, imageOf};
-ghost use Rattle.image.specs.Lent.{Lent};
-ghost use Rattle.rows.specs.Written.{recordsOf};
-ghost use Rattle.outcomes.specs.Leaving.{left, leaving};
-use paper::Correlation;
-use paper::LineOrder;
-use paper::Reply;
-use paper::Row;
-use paper::State;
-use paper::Token;
+ghost use mathlib.Core.List.{[], _∷_, map};
+ghost use Prim.Native.Nat.{ℕ};
+ghost use Rattle.paper.specs.StateRows.{stays, seats, stateRows, foundIn, found};
+ghost use Rattle.rows.specs.Ways.{along};
+use paper::Found;
+use paper::StateRow;
+use paper::Stream;
 
-// A listener loses an open indication and carries its call itself.
-fn carry_itself(img: &mut [u8], i: u8, n: Correlation)
-    requires { ⌜ (i < 16) × (length (now img) ≡ 760) × Lent (now img) ⌝ }
-    ensures { λ _. ⌜ now (img .exit) ≡ imageOf (carryingItself (tableOf (now (img .entry))) i n) ⌝ }
-{
-    let at = i as usize;
-    let s = image::load_stream(img, at);
-    calls::remove_call(img, at, rules::in_state(State::DataXfer, s), n);
+// ---- what comes to a stream: a request, by its code, or an event, by its letter
+const INFO_REQ: u8 = 0x00;
+
+const BIND_REQ: u8 = 0x01;
+
+const UNBIND_REQ: u8 = 0x02;
+
+const ATTACH_REQ: u8 = 0x0b;
+
+const DETACH_REQ: u8 = 0x0c;
+
+const CONNECT_REQ: u8 = 0x0d;
+
+const CONNECT_RES: u8 = 0x0f;
+
+const TOKEN_REQ: u8 = 0x11;
+
+const DISCONNECT_REQ: u8 = 0x13;
+
+const RESET_REQ: u8 = 0x17;
+
+const RESET_RES: u8 = 0x19;
+
+const CALL_ARRIVES: u8 = b'I';
+
+const PEER_ACCEPTED: u8 = b'A';
+
+const PEER_GONE: u8 = b'D';
+
+const CALL_WITHDRAWN: u8 = b'W';
+
+const PEER_RESET: u8 = b'R';
+
+const RESET_CONFIRMED: u8 = b'S';
+
+// ---- the rows
+
+// A row but for its cause.
+enum Way {
+    // in a mode, from a state to another
+    Leads(u8, u8, u8),
+    // an open indication goes; the last state is for the last one
+    Loses(u8, u8, u8, u8),
+    // there is none
+    Nowhere,
 }
 
-// A listener loses an open indication, whose call another stream carries.
-fn carry_on(img: &mut [u8], i: u8, n: Correlation, c: u8)
-    requires { ⌜ (i < 16) × (length (now img) ≡ 760) × Lent (now img) ⌝ }
-    ensures { λ _. ⌜ now (img .exit) ≡ imageOf (moved (losing (tableOf (now (img .entry))) i n) c state.DataXfer) ⌝ }
+// INFO_REQ and TOKEN_REQ: every state, unchanged.
+fn stays(state: u8, mode: u8) -> Way
+    ensures { λ r. ⌜ ((cause : ℕ) → along r state mode cause ≡ foundIn (map (stays cause) seats) state mode cause) ⌝ }
 {
-    changes::lose_call(img, i, n);
-    changes::move_stream(img, c, State::DataXfer);
-}
-
-// The table after a row.
-fn change_table(img: &mut [u8], i: u8, row: Row)
-    requires { ⌜ (i < 16) × (length (now img) ≡ 760) × Lent (now img) ⌝ }
-    ensures { λ _. ⌜ now (img .exit) ≡ imageOf (tableAfter (tableOf (now (img .entry))) i row) ⌝ }
-{
-    let at = i as usize;
-    match row {
-        Row::Inform => {}
-        Row::TellToken => {}
-        Row::Attach(p) => image::store_stream(img, at, rules::attached_to(p)),
-        Row::Detach => image::store_stream(img, at, rules::no_stream()),
-        Row::Bind(mode, sap, granted) => {
-            let p = image::ppa_at(img, at);
-            image::store_stream(img, at, rules::bound_to(p, mode, sap, granted));
+    match state {
+        0 => Way::Leads(0, 0, 0),
+        3 => Way::Leads(0, 3, 3),
+        6 => {
+            if mode == 1 {
+                return Way::Leads(1, 6, 6);
+            }
+            Way::Leads(2, 6, 6)
         }
-        Row::Unbind => {
-            let p = image::ppa_at(img, at);
-            image::store_stream(img, at, rules::attached_to(p));
-        }
-        Row::Connect(_) => changes::move_stream(img, i, State::OutconPending),
-        Row::AcceptHere(n) => carry_itself(img, i, n),
-        Row::AcceptOn(n, c) => carry_on(img, i, n, c),
-        Row::Deny(n, _) => changes::lose_call(img, i, n),
-        Row::Disconnect(_) => changes::move_stream(img, i, State::Idle),
-        Row::Reset => changes::move_stream(img, i, State::UserResetPending),
-        Row::ResetRes => changes::move_stream(img, i, State::DataXfer),
+        8 => Way::Leads(1, 8, 8),
+        9 => Way::Leads(1, 9, 9),
+        11 => Way::Leads(1, 11, 11),
+        12 => Way::Leads(1, 12, 12),
+        _ => Way::Leads(1, 13, 13),
     }
 }
 
-// An order to the line with nothing behind it.
-fn put_order(room: &mut [u8], o: LineOrder) -> usize
-    requires { ⌜ 10 ≤ length (now room) ⌝ }
-    ensures { λ n. ⌜ (n ≡ length (allBytes (order o [] ∷ []))) × (n ≤ 10) × (now (room .exit) ≡ over (allBytes (order o [] ∷ [])) (now (room .entry))) ⌝ }
+// The one row that a cause can have in a state and a mode. (The last of several stands for every other state: it is tested.)
+fn way_of(state: u8, mode: u8, cause: u8) -> Way
+    ensures { λ r. ⌜ along r state mode cause ≡ foundIn stateRows state mode cause ⌝ }
 {
-    replies::put_order(room, o)
-}
-
-// The order to connect. The address is handed on as that part of the message.
-fn put_connect(room: &mut [u8], i: u8, m: &[u8], at: u8) -> usize
-    requires { ⌜ 10 ≤ length (now room) ⌝ }
-    ensures { λ n. ⌜ (n ≡ length (allBytes (order (lineOrder.Connect i) (part (now (m .entry)) at 7) ∷ []))) × (n ≤ 10) × (now (room .exit) ≡ over (allBytes (order (lineOrder.Connect i) (part (now (m .entry)) at 7) ∷ [])) (now (room .entry))) ⌝ }
-{
-    replies::put_connect(room, i, messages::address_in(m, at))
-}
-
-// The order to the line, where the row has one.
-fn put_orders(room: &mut [u8], i: u8, m: &[u8], row: Row) -> usize
-    requires { ⌜ 10 ≤ length (now room) ⌝ }
-    ensures { λ n. ⌜ (n ≡ length (allBytes (ordersOf i (now (m .entry)) row))) × (n ≤ 10) × (now (room .exit) ≡ over (allBytes (ordersOf i (now (m .entry)) row)) (now (room .entry))) ⌝ }
-{
-    match row {
-        Row::Inform => 0,
-        Row::TellToken => 0,
-        Row::Attach(_) => 0,
-        Row::Detach => 0,
-        Row::Bind(_, _, _) => 0,
-        Row::Unbind => 0,
-        Row::Connect(at) => put_connect(room, i, m, at),
-        Row::AcceptHere(n) => put_order(room, LineOrder::Accept(i, n)),
-        Row::AcceptOn(n, c) => put_order(room, LineOrder::Accept(c, n)),
-        Row::Deny(n, reason) => put_order(room, LineOrder::Disconnect(i, n, reason)),
-        Row::Disconnect(reason) => {
-            put_order(room, LineOrder::Disconnect(i, Correlation(0), reason))
+    match cause {
+        INFO_REQ => stays(state, mode),
+        TOKEN_REQ => stays(state, mode),
+        // ATTACH 0 to 3, DETACH 3 to 0, BIND 3 to 6, UNBIND 6 to 3
+        ATTACH_REQ => Way::Leads(0, 0, 3),
+        DETACH_REQ => Way::Leads(0, 3, 0),
+        BIND_REQ => Way::Leads(0, 3, 6),
+        UNBIND_REQ => {
+            if mode == 1 {
+                return Way::Leads(1, 6, 3);
+            }
+            Way::Leads(2, 6, 3)
         }
-        Row::Reset => put_order(room, LineOrder::Reset(i)),
-        Row::ResetRes => put_order(room, LineOrder::ResetAnswer(i)),
+        // On a stream bound in mode 1: CONNECT_REQ 6 to 8; CONNECT_RES from 9
+        CONNECT_REQ => Way::Leads(1, 6, 8),
+        CONNECT_RES => Way::Loses(1, 9, 9, 6),
+        // DISCONNECT_REQ from 8, 9, 11, 12, 13: a denial leads to 6 or 9, and other disconnects to 6
+        DISCONNECT_REQ => match state {
+            8 => Way::Leads(1, 8, 6),
+            9 => Way::Loses(1, 9, 9, 6),
+            11 => Way::Leads(1, 11, 6),
+            12 => Way::Leads(1, 12, 6),
+            _ => Way::Leads(1, 13, 6),
+        },
+        // RESET_REQ 11 to 12; RESET_RES 13 to 11
+        RESET_REQ => Way::Leads(1, 11, 12),
+        RESET_RES => Way::Leads(1, 13, 11),
+        // Events: I 6 or 9 to 9
+        CALL_ARRIVES => match state {
+            6 => Way::Leads(1, 6, 9),
+            _ => Way::Leads(1, 9, 9),
+        },
+        // A 8 to 11
+        PEER_ACCEPTED => Way::Leads(1, 8, 11),
+        // D 8, 11, 12, 13 to 6
+        PEER_GONE => match state {
+            8 => Way::Leads(1, 8, 6),
+            11 => Way::Leads(1, 11, 6),
+            12 => Way::Leads(1, 12, 6),
+            _ => Way::Leads(1, 13, 6),
+        },
+        // W: a listener that loses an open indication goes to 6 at the last one
+        CALL_WITHDRAWN => Way::Loses(1, 9, 9, 6),
+        // R 11 to 13, S 12 to 11
+        PEER_RESET => Way::Leads(1, 11, 13),
+        RESET_CONFIRMED => Way::Leads(1, 12, 11),
+        _ => Way::Nowhere,
     }
 }
 
-// A reply with nothing behind its fields.
-pub fn put_reply(room: &mut [u8], i: u8, reply: Reply) -> usize
-    requires { ⌜ 99 ≤ length (now room) ⌝ }
-    ensures { λ n. ⌜ (n ≡ length (allBytes (up i reply [] ∷ []))) × (n ≤ 99) × (now (room .exit) ≡ over (allBytes (up i reply [] ∷ [])) (now (room .entry))) ⌝ }
-{
-    replies::put_up(room, i, reply, &[0u8; 0])
-}
+// ---- a stream's row for what comes
 
-// INFO_ACK, with the stream's address if it is bound.
-fn put_info(img: &[u8], room: &mut [u8], i: u8) -> usize
-    requires { ⌜ (i < 16) × (length (now img) ≡ 760) × Lent (now img) × (99 ≤ length (now room)) ⌝ }
-    ensures { λ n. ⌜ (n ≡ length (allBytes (repliesTo (tableOf (now (img .entry))) i 0 row.Inform))) × (n ≤ 99) × (now (room .exit) ≡ over (allBytes (repliesTo (tableOf (now (img .entry))) i 0 row.Inform)) (now (room .entry))) ⌝ }
+// A row, if it is that of a state and a mode.
+fn row_in(x: StateRow, state: u8, mode: u8) -> Found
+    ensures { λ r. ⌜ r ≡ foundIn (x ∷ []) state mode (x .cause) ⌝ }
 {
-    let s = image::load_stream(img, i as usize);
-    let p = s.ppa;
-    let mac = lookup::mac_of(img, p);
-    replies::put_info_ack(room, i, s, mac)
-}
-
-// BIND_ACK, with the address bound.
-fn put_bound(img: &[u8], room: &mut [u8], i: u8, sap: u16, granted: u8) -> usize
-    requires { ⌜ (i < 16) × (length (now img) ≡ 760) × Lent (now img) × (99 ≤ length (now room)) ⌝ }
-    ensures { λ n. ⌜ (n ≡ length (allBytes (repliesTo (tableOf (now (img .entry))) i 0 (row.Bind 0 sap granted)))) × (n ≤ 99) × (now (room .exit) ≡ over (allBytes (repliesTo (tableOf (now (img .entry))) i 0 (row.Bind 0 sap granted))) (now (room .entry))) ⌝ }
-{
-    let p = image::ppa_at(img, i as usize);
-    let mac = lookup::mac_of(img, p);
-    replies::put_bind_ack(room, i, mac, sap, granted)
-}
-
-// The reply, where the row has one.
-fn put_replies(img: &[u8], room: &mut [u8], i: u8, code: u32, row: Row) -> usize
-    requires { ⌜ (i < 16) × (length (now img) ≡ 760) × Lent (now img) × (99 ≤ length (now room)) ⌝ }
-    ensures { λ n. ⌜ (n ≡ length (allBytes (repliesTo (tableOf (now (img .entry))) i code row))) × (n ≤ 99) × (now (room .exit) ≡ over (allBytes (repliesTo (tableOf (now (img .entry))) i code row)) (now (room .entry))) ⌝ }
-{
-    match row {
-        Row::Inform => put_info(img, room, i),
-        Row::TellToken => put_reply(room, i, Reply::TokenAck(Token(i as u32 + 1))),
-        Row::Attach(_) => put_reply(room, i, Reply::OkAck(code)),
-        Row::Detach => put_reply(room, i, Reply::OkAck(code)),
-        Row::Bind(_, sap, granted) => put_bound(img, room, i, sap, granted),
-        Row::Unbind => put_reply(room, i, Reply::OkAck(code)),
-        Row::Connect(_) => 0,
-        Row::AcceptHere(_) => put_reply(room, i, Reply::OkAck(code)),
-        Row::AcceptOn(_, _) => put_reply(room, i, Reply::OkAck(code)),
-        Row::Deny(_, _) => put_reply(room, i, Reply::OkAck(code)),
-        Row::Disconnect(_) => put_reply(room, i, Reply::OkAck(code)),
-        Row::Reset => 0,
-        Row::ResetRes => put_reply(room, i, Reply::OkAck(code)),
+    if x.from != state {
+        return Found::Missing;
     }
+    if x.mode != mode {
+        return Found::Missing;
+    }
+    Found::At(x)
 }
 
-// The order first, then F, then the reply, each right behind the one before.
-fn put_records(img: &[u8], room: &mut [u8], i: u8, m: &[u8], row: Row) -> usize
-    requires { ⌜ (i < 16) × (length (now img) ≡ 760) × Lent (now img) × (128 ≤ length (now room)) ⌝ }
-    ensures { λ n. ⌜ (n ≡ length (allBytes (recordsOf (tableOf (now (img .entry))) i (now (m .entry)) row))) × (n ≤ 111) × (now (room .exit) ≡ over (allBytes (recordsOf (tableOf (now (img .entry))) i (now (m .entry)) row)) (now (room .entry))) ⌝ }
+pub fn row_for(s: Stream, cause: u8) -> Found
+    ensures { λ r. ⌜ r ≡ found stateRows s cause ⌝ }
 {
-    let on = rules::flushes(image::load_stream(img, i as usize), row);
-    let code = messages::code_in(m);
-    let a = put_orders(room, i, m, row);
-    let b = a + replies::put_flush_if(&mut room[a..], on, i);
-    b + put_replies(img, &mut room[b..], i, code, row)
-}
-
-// A row serves message m of stream i.
-pub fn perform(img: &mut [u8], room: &mut [u8], i: u8, m: &[u8], row: Row) -> u32
-    requires { ⌜ (i < 16) × (length (now img) ≡ 760) × Lent (now img) × (128 ≤ length (now room)) ⌝ }
-    ensures { λ r. ⌜ left r (now (img .exit)) (now (room .exit)) ≡ leaving (now (img .entry)) (now (room .entry)) (performed (tableOf (now (img .entry))) i (now (m .entry)) row) ⌝ }
-{
-    let n = put_records(img, room, i, m, row);
-    change_table(img, i, row);
-    n as u32
+    let q = s.state;
+    let state = paper::number_of(q);
+    let way = way_of(state, s.mode, cause);
+    match way {
+        Way::Leads(mode, from, to) => {
+            let x = StateRow {
+                from,
+                mode,
+                cause,
+                to,
+                last: to,
+            };
+            row_in(x, state, s.mode)
+        }
+        Way::Loses(mode, from, to, last) => {
+            let x = StateRow {
+                from,
+                mode,
+                cause,
+                to,
+                last,
+            };
+            row_in(x, state, s.mode)
+        }
+        Way::Nowhere => Found::Missing,
+    }
 }

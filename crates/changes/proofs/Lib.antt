@@ -1,2 +1,0 @@
--- Laws of changes of the table that callers cite.
-pub mod Laws
