@@ -2,3 +2,6 @@ pub mod Examples
 pub mod Sizes
 pub mod StateNumbers
 pub mod StateTable
+pub mod RowFound
+pub mod Fair
+pub mod Walk

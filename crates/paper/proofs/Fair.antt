@@ -1,0 +1,247 @@
+-- What the order of errors has shown of a request that it serves: each rule that does not fail has shown its opposite. One walk of the
+-- order, for whoever needs it.
+use Prim.Native.Nat.{ℕ, suc, _+_, _-_, _≤_, _<_, min}
+use native.Mathlib.Omega.{arith}
+use mathlib.Core.Path.{_≡_, refl, sym}
+use mathlib.Core.Bool.{Bool, true, false, false≢true}
+use mathlib.Core.List.{List}
+use lib.ListN.{length}
+use lib.Dec.{eqb, ltb, leb}
+use borrow.Author.Tests.{eqb-true, eqb-false, ltb-false, le-leb, not-false}
+use Rattle.ledger.specs.Choice.{pick, both, either, _⇒_∣_}
+use Rattle.ledger.specs.Tally.{has}
+use Rattle.ledger.proofs.Tallies.{picked, chosen, either-no}
+use Rattle.paper.specs.Base.{isIn, Table, slot, stream, waiting, knows}
+use Rattle.paper.specs.Saps.{isSap, isType, grantOf, asBindAllows, isListenedFor}
+use Rattle.paper.specs.Messages.{codeIn, primitiveOf, otherCode, sized, readAs, askedBy}
+use Rattle.paper.specs.StateRows.{infoReq, bindReq, unbindReq, attachReq, detachReq, connectReq, connectRes, tokenReq, disconnectReq, resetReq, resetRes}
+use Rattle.paper.specs.Sight.{requestAsks, carrierOf, answerTo, sightBy, carrierAt}
+use Rattle.paper.specs.ErrorOrder.{judgeAttach, judgeListening, judgeBind, judgeConnect, judgeOther, judgeItself, judgeCarrier, judgeAccept, judgeDenial, judgeDisconnect, judgeServed}
+use Rattle.paper.specs.Effects.{boundIn}
+use Rattle.paper.specs.declared.State.{State}
+use Rattle.paper.specs.declared.PpaNumber.{PpaNumber}
+use Rattle.paper.specs.declared.Token.{Token}
+use Rattle.paper.specs.declared.BindRequest.{BindRequest}
+use Rattle.paper.specs.declared.ConnectRequest.{ConnectRequest}
+use Rattle.paper.specs.declared.ConnectResponse.{ConnectResponse}
+use Rattle.paper.specs.declared.DisconnectRequest.{DisconnectRequest}
+use Rattle.paper.specs.declared.Primitive.{Primitive}
+use Rattle.paper.specs.declared.Primitive.the-variants as primitive
+use Rattle.paper.specs.declared.Request.{Request}
+use Rattle.paper.specs.declared.Request.the-variants as request
+use Rattle.paper.specs.declared.Rule.{Rule}
+use Rattle.paper.specs.declared.Carrier.{Carrier}
+use Rattle.paper.specs.declared.Carrier.the-variants.{Itself, Other, None}
+use Rattle.paper.specs.declared.Service.{Service}
+use Rattle.paper.specs.declared.Service.the-variants as service
+use Rattle.paper.specs.declared.StateRow.{StateRow}
+use Rattle.paper.specs.declared.Found.the-variants.{At}
+use Rattle.paper.specs.declared.Asked.{Asked}
+use Rattle.paper.specs.declared.Asked.the-variants.{For, Wrong}
+use Rattle.paper.specs.declared.Verdict.{Verdict}
+use Rattle.paper.specs.declared.Verdict.the-variants.{Serves, Fails}
+
+-- ---- what a served request has shown
+
+-- a bind that may be, of stream i
+pub record MayBind (t : Table) (i : ℕ) (b : BindRequest) : Type 0 where
+  pub moded : either (eqb (b .mode) 1) (eqb (b .mode) 2) ≡ true
+  pub unmanaged : b .management ≡ 0
+  pub unautomatic : b .xidtest ≡ 0
+  pub allowed : either (isSap (b .sap)) (isType (b .sap)) ≡ true
+  -- mode 1 takes no type
+  pub untyped : both (eqb (b .mode) 1) (isType (b .sap)) ≡ false
+  -- where it will listen, nobody else does
+  pub unheard : both (eqb (b .mode) 1) (both (ltb 0 (b .most)) (isListenedFor t (stream t i .ppa) (b .sap))) ≡ false
+
+-- another stream c that may carry a call of stream i
+pub record MayCarry (t : Table) (i c : ℕ) : Type 0 where
+  pub isOpen : slot t c .isOpen ≡ true
+  pub other : c ≡ i → ⊥
+  pub idle : isIn 6 (stream t c) ≡ true
+  pub samePpa : stream t c .ppa .0 ≡ stream t i .ppa .0
+  pub notConnectionless : eqb (stream t c .mode) 2 ≡ false
+
+-- Request q of stream i, in message m, is served so, and stream c carries.
+pub data Fair (t : Table) (i : ℕ) (m : List ℕ) : Request → ℕ → Service → Type 0 where
+  informs : Fair t i m request.Info i service.Inform
+  tellsToken : Fair t i m request.Token i service.TellToken
+  attaches : {p : PpaNumber} → knows t p ≡ true → Fair t i m (request.Attach p) i (service.Attach p)
+  detaches : Fair t i m request.Detach i service.Detach
+  binds : {b : BindRequest} → MayBind t i b → Fair t i m (request.Bind b) i (service.Bind (b .mode) (b .sap) (grantOf (b .mode) (b .most)))
+  unbinds : Fair t i m request.Unbind i service.Unbind
+  -- the address lies behind the fields and within the message
+  connects : {a : ConnectRequest} → 24 ≤ a .offset → a .offset + 7 ≤ length m → Fair t i m (request.Connect a) i (service.Connect (a .offset))
+  -- The number is open here: the only one where this stream is to carry the call, or another stream may.
+  acceptsHere : {a : ConnectResponse} → has (a .correlation .0) (waiting t i) ≡ true → length (waiting t i) ≤ 1
+      → Fair t i m (request.ConnectRes a) i (service.Accept (a .correlation))
+  acceptsOn : {a : ConnectResponse} {c : ℕ} → has (a .correlation .0) (waiting t i) ≡ true → MayCarry t i c
+      → Fair t i m (request.ConnectRes a) c (service.Accept (a .correlation))
+  denies : {d : DisconnectRequest} → isIn 9 (stream t i) ≡ true → has (d .correlation .0) (waiting t i) ≡ true
+      → Fair t i m (request.Disconnect d) i (service.Deny (d .correlation) (d .reason))
+  disconnects : {d : DisconnectRequest} → isIn 9 (stream t i) ≡ false → d .correlation .0 ≡ 0
+      → Fair t i m (request.Disconnect d) i (service.Disconnect (d .reason))
+  resets : Fair t i m request.Reset i service.Reset
+  answersReset : Fair t i m request.ResetRes i service.ResetRes
+
+-- ---- what a bind that may be leaves
+
+-- is as BIND allows,
+pub bind-allowed : {t : Table} {i : ℕ} {b : BindRequest} → MayBind t i b → (q : State) (p : PpaNumber)
+    → asBindAllows (boundIn q p (b .mode) (b .sap) (grantOf (b .mode) (b .most))) ≡ true
+unfolding asBindAllows grantOf
+bind-allowed {b = b} h q p = go (eqb (b .mode) 1) (eqb (b .mode) 2) (isSap (b .sap)) (isType (b .sap)) (h .moded) (h .allowed) (h .untyped)
+  where
+    go : (one two sap type : Bool) → either one two ≡ true → either sap type ≡ true → both one type ≡ false
+        → either (both one (both sap (leb (pick two 0 (min (b .most) 8)) 8))) (both two (both (either sap type) (eqb (pick two 0 (min (b .most) 8)) 0))) ≡ true
+    go true two true false o a u = rw (le-leb (pick two 0 (min (b .most) 8)) 8 (picked (λ (g : ℕ). g ≤ 8) two 0 (min (b .most) 8) (λ e. omega arith) (λ e. omega arith)))
+    go true two sap true o a u = absurd (false≢true (sym u))
+    go true two false false o a u = absurd (false≢true a)
+    go false true sap type o a u = rw a
+    go false false sap type o a u = absurd (false≢true o)
+
+-- and listens where nobody else does.
+pub bind-unheard : {t : Table} {i : ℕ} {b : BindRequest} → MayBind t i b → 0 < grantOf (b .mode) (b .most) → isListenedFor t (stream t i .ppa) (b .sap) ≡ false
+unfolding grantOf
+bind-unheard {t} {i} {b} h = go (eqb (b .mode) 1) (eqb (b .mode) 2) (ltb 0 (b .most)) refl (isListenedFor t (stream t i .ppa) (b .sap)) (h .moded) (h .unheard)
+  where
+    go : (one two some : Bool) → ltb 0 (b .most) ≡ some → (listened : Bool) → either one two ≡ true → both one (both some listened) ≡ false
+        → 0 < pick two 0 (min (b .most) 8) → listened ≡ false
+    go true two true e l o u g = u
+    go true true false e l o u g = absurd (omega arith)
+    go true false false e l o u g = absurd (omega (arith, ltb-false 0 (b .most) e))
+    go false true some e l o u g = absurd (omega arith)
+    go false false some e l o u g = absurd (false≢true o)
+
+-- ---- what a message that asks for a request has shown: its code is the request's, and a connect was read with the message's size
+
+abbrev pub sizeRead : ℕ → Request → ℕ
+sizeRead l request.Info = l
+sizeRead l request.Token = l
+sizeRead l (request.Attach p) = l
+sizeRead l request.Detach = l
+sizeRead l (request.Bind b) = l
+sizeRead l request.Unbind = l
+sizeRead l (request.Connect c) = c .size
+sizeRead l (request.ConnectRes a) = l
+sizeRead l (request.Disconnect d) = l
+sizeRead l request.Reset = l
+sizeRead l request.ResetRes = l
+
+pub record Asks (m : List ℕ) (q : Request) : Type 0 where
+  pub coded : codeIn m ≡ requestAsks q .cause
+  pub measured : sizeRead (length m) q ≡ length m
+
+data Reads (m : List ℕ) : Asked → Type 0 where
+  wrong : {w : Rule} → Reads m (Wrong w)
+  right : {q : Request} → Asks m q → Reads m (For q)
+
+-- the code of a primitive that is served
+abbrev Coded : ℕ → Primitive → Type 0
+Coded code primitive.Info = code ≡ infoReq
+Coded code primitive.Attach = code ≡ attachReq
+Coded code primitive.Detach = code ≡ detachReq
+Coded code primitive.Bind = code ≡ bindReq
+Coded code primitive.Unbind = code ≡ unbindReq
+Coded code primitive.Connect = code ≡ connectReq
+Coded code primitive.ConnectRes = code ≡ connectRes
+Coded code primitive.Token = code ≡ tokenReq
+Coded code primitive.Disconnect = code ≡ disconnectReq
+Coded code primitive.Reset = code ≡ resetReq
+Coded code primitive.ResetRes = code ≡ resetRes
+Coded code primitive.NotSupported = Unit {0}
+Coded code primitive.NotServed = Unit {0}
+
+coded : (code : ℕ) → Coded code (primitiveOf code)
+unfolding primitiveOf otherCode
+coded code =
+    chosen P _ _ _ (eqb-true code infoReq) (λ _. chosen P _ _ _ (eqb-true code attachReq) (λ _. chosen P _ _ _ (eqb-true code detachReq) (λ _.
+    chosen P _ _ _ (eqb-true code unbindReq) (λ _. chosen P _ _ _ (eqb-true code bindReq) (λ _. chosen P _ _ _ (eqb-true code connectReq) (λ _.
+    chosen P _ _ _ (eqb-true code connectRes) (λ _. chosen P _ _ _ (eqb-true code tokenReq) (λ _. chosen P _ _ _ (eqb-true code disconnectReq) (λ _.
+    chosen P _ _ _ (eqb-true code resetReq) (λ _. chosen P _ _ _ (eqb-true code resetRes) (λ _. chosen P _ _ _ (λ _. tt) (λ _. tt))))))))))))
+  where
+    P : Primitive → Type 0
+    P = Coded code
+
+module _ (m : List ℕ) where
+  of-size : (n : ℕ) (q : Request) → codeIn m ≡ requestAsks q .cause → sizeRead (length m) q ≡ length m → Reads m (sized n m q)
+  unfolding sized
+  of-size n q c h = chosen (Reads m) _ _ _ (λ e. wrong) (λ e. right (record { coded = c; measured = h }))
+
+  reads : (p : Primitive) → Coded (codeIn m) p → Reads m (readAs p m)
+  reads primitive.Info c = of-size 4 request.Info c refl
+  reads primitive.Attach c = of-size 8 (request.Attach _) c refl
+  reads primitive.Detach c = of-size 4 request.Detach c refl
+  reads primitive.Bind c = of-size 20 (request.Bind _) c refl
+  reads primitive.Unbind c = of-size 4 request.Unbind c refl
+  reads primitive.Connect c = of-size 24 (request.Connect _) c refl
+  reads primitive.ConnectRes c = of-size 24 (request.ConnectRes _) c refl
+  reads primitive.Token c = of-size 4 request.Token c refl
+  reads primitive.Disconnect c = of-size 12 (request.Disconnect _) c refl
+  reads primitive.Reset c = of-size 4 request.Reset c refl
+  reads primitive.ResetRes c = of-size 4 request.ResetRes c refl
+  reads primitive.NotSupported c = wrong
+  reads primitive.NotServed c = wrong
+
+  pub asks : {q : Request} → askedBy m ≡ For q → Asks m q
+  unfolding askedBy
+  asks {q} e = of-right (readAs (primitiveOf (codeIn m)) m) (reads (primitiveOf (codeIn m)) (coded (codeIn m))) e
+    where
+      of-right : (a : Asked) → Reads m a → a ≡ For q → Asks m q
+      of-right (Wrong w) h e = absurd (let z : _≡_ {A = ℕ} 0 1 = cc in omega arith)
+      of-right (For p) (right h) e = let z : p ≡ q = cc in rw z at h
+
+-- ---- the walk
+
+-- a verdict on request q: a rule that fails, or a fair service
+pub data Judged (t : Table) (i : ℕ) (m : List ℕ) (q : Request) (c : ℕ) : Verdict → Type 0 where
+  fails : {w : Rule} → Judged t i m q c (Fails w)
+  serves : {v : Service} → Fair t i m q c v → Judged t i m q c (Serves v)
+
+-- an order of tests, of which each verdict is such: a test that does not apply has shown its opposite
+infixr 5 _⟹_∣_
+_⟹_∣_ : {t : Table} {i : ℕ} {m : List ℕ} {q : Request} {c : ℕ} (b : Bool) {v w : Verdict} → Judged t i m q c v → (b ≡ false → Judged t i m q c w)
+    → Judged t i m q c (b ⇒ v ∣ w)
+_⟹_∣_ {t} {i} {m} {q} {c} b h g = chosen (Judged t i m q c) b _ _ (λ e. h) g
+
+module _ (t : Table) (i : ℕ) (m : List ℕ) where
+  -- what the token of an accept names: this stream, or another that is open
+  data Named : Carrier → Type 0 where
+    itself : Named Itself
+    nobody : Named None
+    another : (c : ℕ) → slot t c .isOpen ≡ true → (c ≡ i → ⊥) → Named (Other c (stream t c))
+
+  named : (k : Token) → Named (carrierOf t i k)
+  unfolding carrierOf
+  named k = chosen Named _ _ _ (λ e. itself) (λ e. chosen Named _ _ _ (λ o. another (k .0 - 1) o (other (either-no (eqb (k .0) 0) (eqb (k .0) (suc i)) e))) (λ o. nobody))
+    where
+      other : (eqb (k .0) 0 ≡ false) × (eqb (k .0) (suc i) ≡ false) → k .0 - 1 ≡ i → ⊥
+      other e z = let a : k .0 ≡ 0 → ⊥ = eqb-false (k .0) 0 (e .0) in let b : k .0 ≡ suc i → ⊥ = eqb-false (k .0) (suc i) (e .1) in omega arith
+
+  fair-carrier : (a : ConnectResponse) → has (a .correlation .0) (waiting t i) ≡ true → (c : Carrier) → Named c
+      → Judged t i m (request.ConnectRes a) (carrierAt i c) (judgeCarrier (stream t i) (a .correlation) (length (waiting t i)) c)
+  unfolding judgeCarrier judgeItself judgeOther
+  fair-carrier a h Itself itself = _ ⟹ fails ∣ (λ e. serves (acceptsHere h (ltb-false _ _ e)))
+  fair-carrier a h None nobody = fails
+  fair-carrier a h (Other _ _) (another c o d) = _ ⟹ fails ∣ (λ n. _ ⟹ fails ∣ (λ p. _ ⟹ fails ∣ (λ e. serves (acceptsOn h
+      (record { isOpen = o; other = d; idle = not-false _ n; samePpa = eqb-true _ _ (not-false _ p); notConnectionless = e })))))
+
+  -- every verdict on a request that message m asks for, by any row
+  pub fair : (x : StateRow) (q : Request) → Asks m q
+      → Judged t i m q (carrierAt i (answerTo t i (At x) (requestAsks q .question) .carrier)) (judgeServed (sightBy t i (At x) (requestAsks q .question)) q)
+  unfolding answerTo judgeServed judgeAttach judgeBind judgeListening judgeConnect judgeAccept judgeDisconnect judgeDenial
+  fair x request.Info s = serves informs
+  fair x request.Token s = serves tellsToken
+  fair x (request.Attach p) s = _ ⟹ fails ∣ (λ k. serves (attaches (not-false _ k)))
+  fair x request.Detach s = serves detaches
+  fair x (request.Bind b) s = _ ⟹ fails ∣ (λ o. _ ⟹ fails ∣ (λ n. _ ⟹ fails ∣ (λ a. _ ⟹ fails ∣ (λ p. _ ⟹ fails ∣ (λ u. _ ⟹ fails ∣ (λ h. serves (binds
+      (record { moded = not-false _ o; unmanaged = eqb-true _ _ (not-false _ n); unautomatic = eqb-true _ _ (not-false _ a); allowed = not-false _ p; untyped = u; unheard = h }))))))))
+  fair x request.Unbind s = serves unbinds
+  fair x (request.Connect a) s = _ ⟹ fails ∣ (λ _. _ ⟹ fails ∣ (λ _. _ ⟹ fails ∣ (λ f. _ ⟹ fails ∣ (λ g. _ ⟹ fails ∣ (λ _.
+      let u : a .offset + 7 ≤ a .size = ltb-false _ _ g in serves (connects (ltb-false _ _ f) (omega (arith, s .measured))))))))
+  fair x (request.ConnectRes a) s = _ ⟹ fails ∣ (λ h. _ ⟹ fails ∣ (λ _. fair-carrier a (not-false _ h) (carrierOf t i (a .token)) (named (a .token))))
+  fair x (request.Disconnect d) s = chosen (Judged t i m (request.Disconnect d) i) _ _ _
+      (λ e. _ ⟹ fails ∣ (λ h. serves (denies e (not-false _ h))))
+      (λ e. _ ⟹ fails ∣ (λ z. serves (disconnects e (eqb-true _ _ (not-false _ z)))))
+  fair x request.Reset s = serves resets
+  fair x request.ResetRes s = serves answersReset

@@ -1,0 +1,231 @@
+-- The ways that a call can go, and what the tests on each have shown: the one walk of the call, by any list of state rows. What holds on
+-- each way holds of every call.
+use Prim.Native.Nat.{ℕ, _≤_, _<_}
+use native.Mathlib.Omega.{arith}
+use mathlib.Core.Path.{_≡_, refl, sym, ap, subst, _∙_}
+use mathlib.Core.Bool.{Bool, true, false, not}
+use mathlib.Core.List.{List, [], _∷_}
+use lib.ListN.{length}
+use lib.Dec.{ltb}
+use borrow.Author.Tests.{ltb-true, ltb-false, leb-false, le-ltb, not-false}
+use Rattle.ledger.specs.Choice.{both, _⇒_∣_}
+use Rattle.ledger.proofs.Tallies.{both-of, chosen, skip}
+use Rattle.paper.specs.Base.{closed, justOpened, Table, slot, stream, lowestFree, tokenOf, knows, macAt, withSlot, withPpa, remembering}
+use Rattle.paper.specs.RecordsIn.{inputOf, macIn, messageIn}
+use Rattle.paper.specs.RecordsOut.{up, inOrder}
+use Rattle.paper.specs.Refusals.{littleRoom, notOpen, allOpen, noCode, overLong, unexpected, nobodyThere, busy, noNewPpa, notARecord, notSound, Outcome, refused, served, servedOpening}
+use Rattle.paper.specs.Saps.{listener, isListenedFor}
+use Rattle.paper.specs.Correlations.{nextNumber}
+use Rattle.paper.specs.Sound.{sound}
+use Rattle.paper.specs.Messages.{codeIn, askedBy}
+use Rattle.paper.specs.Openings.{addsPpa, opens, goodbyes, closes}
+use Rattle.paper.specs.StateRows.{found}
+use Rattle.paper.specs.Sight.{sends, brings, nothing, requestAsks, letterOf, answerTo, sightBy, sightOf}
+use Rattle.paper.specs.ErrorCodes.{errorOf}
+use Rattle.paper.specs.ErrorOrder.{verdictBy, verdict}
+use Rattle.paper.specs.Effects.{changed, carried, enacted, ordersIn, behindReply, upsIn, told, effectOf, eventEffect}
+use Rattle.paper.specs.Decide.{Decision, effectBy, isDue, decideBy}
+use Rattle.paper.specs.Step.{enact, comes, ofOpen, message, arrives, serveBy, isReadable, stepBy}
+use Rattle.paper.specs.declared.PpaNumber.{PpaNumber}
+use Rattle.paper.specs.declared.Correlation.{Correlation}
+use Rattle.paper.specs.declared.Input.{Input}
+use Rattle.paper.specs.declared.Input.the-variants as input
+use Rattle.paper.specs.declared.Request.{Request}
+use Rattle.paper.specs.declared.Rule.{Rule}
+use Rattle.paper.specs.declared.Service.{Service}
+use Rattle.paper.specs.declared.StateRow.{StateRow}
+use Rattle.paper.specs.declared.Found.{Found}
+use Rattle.paper.specs.declared.Found.the-variants.{At, Missing}
+use Rattle.paper.specs.declared.Asked.{Asked}
+use Rattle.paper.specs.declared.Asked.the-variants.{For, Wrong}
+use Rattle.paper.specs.declared.Verdict.{Verdict}
+use Rattle.paper.specs.declared.Verdict.the-variants.{Serves, Fails}
+use Rattle.paper.specs.declared.Event.{Event}
+use Rattle.paper.specs.declared.Event.the-variants as event
+use Rattle.paper.specs.declared.Reply.the-variants as reply
+use Rattle.paper.specs.declared.Effect.{Effect}
+use Rattle.paper.proofs.Fair.{Asks, asks, Fair, Judged, fails, serves, fair}
+
+-- ---- what comes of a message, and of an event
+
+-- an effect on stream i, done, where stream c carries
+abbrev pub done : Table → ℕ → ℕ → List ℕ → Effect → Outcome
+done t i c m e = served (enacted t i c m e) (told i c (slot t i) (macAt t i) m e)
+
+-- an ERROR_ACK, and nothing else
+abbrev pub erring : Table → ℕ → ℕ → Rule → Outcome
+erring t i code w = served t (up i (reply.ErrorAck code (errorOf w)) [] ∷ [])
+
+-- the verdict on what message m asks of stream i
+abbrev pub verdictOn : List StateRow → Table → ℕ → List ℕ → Asked → Verdict
+verdictOn rows t i m a = verdict (sightOf rows t i (sends (codeIn m) a)) a
+
+-- A message that asks this is answered with the error of the first rule that applies, or is served by its row.
+pub data Answered (rows : List StateRow) (t : Table) (i : ℕ) (m : List ℕ) : Asked → Outcome → Type 0 where
+  failing : {a : Asked} {w : Rule} → verdictOn rows t i m a ≡ Fails w → Answered rows t i m a (erring t i (codeIn m) w)
+  serving : {q : Request} {x : StateRow} {c : ℕ} {v : Service} → verdictOn rows t i m (For q) ≡ Serves v
+      → found rows (stream t i) (requestAsks q .cause) ≡ At x → Fair t i m q c v
+      → Answered rows t i m (For q) (done t i c m (effectOf x (tokenOf i) (stream t i) v))
+
+-- That record in brings that event to stream i, past the tests that stand before the event.
+pub data Brings (t : Table) : Input → ℕ → Event → Type 0 where
+  arriving : {p : PpaNumber} {sap : ℕ} → knows t p ≡ true → listener t p sap < 16
+      → Brings t (input.CallArrives p sap) (listener t p sap) (event.Arrives (record { 0 = nextNumber t }))
+  accepted : {i : ℕ} → slot t i .isOpen ≡ true → Brings t (input.PeerAccepted i) i event.Accepted
+  gone : {i reason : ℕ} → slot t i .isOpen ≡ true → Brings t (input.PeerGone i reason) i (event.Gone reason)
+  withdrawn : {i : ℕ} {n : Correlation} {reason : ℕ} → slot t i .isOpen ≡ true
+      → Brings t (input.CallWithdrawn i n reason) i (event.Withdrawn n reason)
+  reset : {i reason : ℕ} → slot t i .isOpen ≡ true → Brings t (input.PeerReset i reason) i (event.Resets reason)
+  confirmed : {i : ℕ} → slot t i .isOpen ≡ true → Brings t (input.ResetConfirmed i) i event.Confirmed
+
+-- ---- the ways of a call
+
+-- a PPA that may be added
+pub record MayAdd (t : Table) (p : PpaNumber) : Type 0 where
+  pub neverOpened : t .remembers ≡ false
+  pub few : length (t .ppas) < 8
+  pub new : knows t p ≡ false
+
+-- a message of l bytes to stream i, where refusals 2, 5 and 4 do not apply
+pub record Sent (t : Table) (i l : ℕ) : Type 0 where
+  pub isOpen : slot t i .isOpen ≡ true
+  pub coded : 4 ≤ l
+  pub whole : l ≤ 96
+
+-- The call on record r, read as that input, comes to that outcome: by a refusal other than 16, by adding a PPA, by opening or closing a
+-- stream, by answering a message, or by bringing an event that is due.
+pub data Way (rows : List StateRow) (t : Table) (r : List ℕ) : Input → Outcome → Type 0 where
+  refusing : {q : Input} {n : ℕ} → 0 < n → n < 16 → Way rows t r q (refused t n)
+  adding : {p : PpaNumber} → MayAdd t p → Way rows t r (input.AddPpa p) (served (withPpa t (record { number = p; mac = macIn r })) [])
+  opening : lowestFree t < 16 → Way rows t r input.Open (servedOpening (withSlot (remembering t) (lowestFree t) justOpened) (lowestFree t))
+  closing : {i : ℕ} → slot t i .isOpen ≡ true → Way rows t r (input.Close i) (served (withSlot t i closed) (goodbyes i (slot t i)))
+  answering : {i l : ℕ} {a : Asked} {o : Outcome} → Sent t i l → askedBy (messageIn r l) ≡ a → Answered rows t i (messageIn r l) a o
+      → Way rows t r (input.Message i l) o
+  bringing : {q : Input} {i : ℕ} {e : Event} {x : StateRow} → Brings t q i e → found rows (stream t i) (letterOf e) ≡ At x
+      → isDue (slot t i) e ≡ true → Way rows t r q (done t i i r (eventEffect x (stream t i) e))
+
+-- ---- the walk
+
+module _ (rows : List StateRow) (t : Table) where
+  module _ (i : ℕ) (m : List ℕ) where
+    -- a request with a row, by the verdict on it
+    answered-by : (q : Request) (x : StateRow) (c : ℕ) (v : Verdict) → found rows (stream t i) (requestAsks q .cause) ≡ At x
+        → verdictOn rows t i m (For q) ≡ v → Judged t i m q c v
+        → Answered rows t i m (For q) (done t i c m (effectBy x (tokenOf i) (codeIn m) (stream t i) v))
+    unfolding effectBy enacted changed carried told ordersIn upsIn behindReply inOrder
+    answered-by q x c (Fails w) h e fails = failing e
+    answered-by q x c (Serves v) h e (serves f) = serving e h f
+
+    -- a request, by the row found
+    by-found : (q : Request) → Asks m q → (f : Found) → found rows (stream t i) (requestAsks q .cause) ≡ f
+        → verdictBy (sightBy t i f (requestAsks q .question)) (For q) f ≡ verdictOn rows t i m (For q)
+        → Answered rows t i m (For q)
+        (enact t i m (sightBy t i f (requestAsks q .question)) (decideBy (sightBy t i f (requestAsks q .question)) (sends (codeIn m) (For q)) f))
+    unfolding enact decideBy enacted changed carried told ordersIn upsIn behindReply inOrder
+    by-found q s Missing h e = failing (sym e)
+    by-found q s (At x) h e = answered-by q x _ _ h (sym e) (fair t i m x q s)
+
+    -- what message m asks, decided and enacted
+    pub answered : (a : Asked) → askedBy m ≡ a → Answered rows t i m a (comes rows t i m (sends (codeIn m) a))
+    unfolding comes enact decideBy enacted changed carried told ordersIn upsIn behindReply inOrder
+    answered (Wrong w) e = failing refl
+    answered (For q) e = by-found q (asks m e) _ refl refl
+
+  -- a refusal other than 16
+  no : {r : List ℕ} {q : Input} (n : ℕ) → both (ltb 0 n) (ltb n 16) ≡ true → Way rows t r q (refused t n)
+  no n h = let b : (ltb 0 n ≡ true) × (ltb n 16 ≡ true) = both-of _ _ h in refusing (ltb-true _ _ (b .0)) (ltb-true _ _ (b .1))
+
+  -- what the line brings to stream i, in record r: refused, or done by its row
+  module _ (r : List ℕ) {q : Input} {i : ℕ} {e : Event} (b : Brings t q i e) (n : ℕ) (h : both (ltb 0 n) (ltb n 16) ≡ true) where
+    by-row : (f : Found) → found rows (stream t i) (letterOf e) ≡ f
+        → Way rows t r q (enact t i r (sightBy t i f nothing) (decideBy (sightBy t i f nothing) (brings n e) f))
+    unfolding enact decideBy answerTo
+    by-row Missing f = no n h
+    by-row (At x) f =
+        chosen (λ (d : Decision). Way rows t r q (enact t i r (sightBy t i (At x) nothing) d)) _ _ _ (λ _. no n h) (λ d. bringing b f (not-false _ d))
+
+    brought : Way rows t r q (comes rows t i r (brings n e))
+    unfolding comes
+    brought = by-row _ refl
+
+  module _ (r : List ℕ) where
+    -- an order of tests, of which each answer is such a way
+    infixr 5 _⟹_∣_
+    _⟹_∣_ : {q : Input} (b : Bool) {o p : Outcome} → Way rows t r q o → (b ≡ false → Way rows t r q p) → Way rows t r q (b ⇒ o ∣ p)
+    _⟹_∣_ {q} b h g = chosen (Way rows t r q) b _ _ (λ _. h) g
+
+    -- of an open stream
+    of-open : {q : Input} (i : ℕ) (o : Outcome) → (slot t i .isOpen ≡ true → Way rows t r q o) → Way rows t r q (ofOpen t i o)
+    unfolding ofOpen
+    of-open i o h = _ ⟹ no notOpen refl ∣ (λ e. h (not-false _ e))
+
+    -- an event that names its stream
+    event-of : {q : Input} {e : Event} (i : ℕ) → (slot t i .isOpen ≡ true → Brings t q i e)
+        → Way rows t r q (ofOpen t i (comes rows t i r (brings unexpected e)))
+    event-of i h = of-open i _ (λ o. brought r (h o) unexpected refl)
+
+    -- each kind of record in, as `serveBy` reads
+    pub walk : (q : Input) → Way rows t r q (serveBy rows t r q)
+    unfolding addsPpa opens closes message arrives isListenedFor
+    walk input.Unreadable = no notARecord refl
+    walk input.Padded = no notARecord refl
+    walk (input.AddPpa p) = _ ⟹ no noNewPpa refl ∣ (λ n. _ ⟹ no noNewPpa refl ∣ (λ f. _ ⟹ no noNewPpa refl ∣ (λ w.
+        adding (record { neverOpened = n; few = leb-false _ _ f; new = w }))))
+    walk input.Open = chosen (Way rows t r input.Open) _ _ _ (λ f. opening (ltb-true _ _ f)) (λ _. no allOpen refl)
+    walk (input.Close i) = of-open i _ closing
+    walk (input.Message i l) = of-open i _ (λ o. _ ⟹ no overLong refl ∣ (λ w. _ ⟹ no noCode refl ∣ (λ c.
+        answering (record { isOpen = o; coded = ltb-false _ _ c; whole = ltb-false _ _ w }) refl (answered i (messageIn r l) _ refl))))
+    walk (input.CallArrives p sap) = _ ⟹ no nobodyThere refl ∣ (λ k. _ ⟹ no nobodyThere refl ∣ (λ _. _ ⟹ no nobodyThere refl ∣ (λ l.
+        brought r (arriving (not-false _ k) (ltb-true _ _ (not-false _ l))) busy refl)))
+    walk (input.PeerAccepted i) = event-of i accepted
+    walk (input.PeerGone i reason) = event-of i gone
+    walk (input.CallWithdrawn i n reason) = event-of i withdrawn
+    walk (input.PeerReset i reason) = event-of i reset
+    walk (input.ResetConfirmed i) = event-of i confirmed
+
+    -- ---- the whole call
+
+    module _ (room : ℕ) where
+      -- an unsound table is refused with 16;
+      pub unsound : sound t ≡ false → stepBy rows t r room ≡ refused t notSound
+      unfolding stepBy _⇒_∣_
+      unsound e = rw e
+
+      -- on a sound one refusals 10 and 1 come before the record is served.
+      pub step-by : (P : Outcome → Type 0) → sound t ≡ true → ((n : ℕ) → 0 < n → n < 16 → P (refused t n))
+          → (isReadable (inputOf r) ≡ true → 128 ≤ room → P (serveBy rows t r (inputOf r))) → P (stepBy rows t r room)
+      unfolding stepBy _⇒_∣_
+      step-by P e f g =
+          rw e (chosen P _ _ _ (λ _. f notARecord (omega arith) (omega arith))
+          (λ a. chosen P _ _ _ (λ _. f littleRoom (omega arith) (omega arith)) (λ b. g (not-false _ a) (ltb-false _ _ b))))
+
+      -- Every call on a sound table goes one of the ways.
+      pub step-walk : sound t ≡ true → Way rows t r (inputOf r) (stepBy rows t r room)
+      step-walk e = step-by (Way rows t r (inputOf r)) e (λ n some small. refusing some small) (λ _ _. walk (inputOf r))
+
+      -- What holds on each way, and of refusal 16, holds of every call, whatever the table.
+      pub any-walk : (P : Outcome → Type 0) → P (refused t notSound) → ((o : Outcome) → Way rows t r (inputOf r) o → P o) → P (stepBy rows t r room)
+      any-walk P f g = go (sound t) refl
+        where
+          go : (b : Bool) → sound t ≡ b → P (stepBy rows t r room)
+          go true e = g _ (step-walk e)
+          go false e = subst P (sym (unsound e)) f
+
+      -- ---- a message that no refusal stands before: it comes to its stream, and is answered
+
+      module _ {i l : ℕ} {a : Asked} (e : sound t ≡ true) (roomy : 128 ≤ room) (read : inputOf r ≡ input.Message i l) (s : Sent t i l)
+          (asked : askedBy (messageIn r l) ≡ a) where
+        pub message-comes : stepBy rows t r room ≡ comes rows t i (messageIn r l) (sends (codeIn (messageIn r l)) a)
+        unfolding stepBy ofOpen message
+        message-comes =
+            skip (not (sound t)) _ _ (ap not e)
+            ∙ skip (not (isReadable (inputOf r))) _ _ (ap (λ (p : Input). not (isReadable p)) read)
+            ∙ skip (ltb room 128) _ _ (le-ltb _ _ roomy)
+            ∙ ap (serveBy rows t r) read
+            ∙ skip (not (slot t i .isOpen)) _ _ (ap not (s .isOpen))
+            ∙ skip (ltb 96 l) _ _ (le-ltb _ _ (s .whole))
+            ∙ skip (ltb l 4) _ _ (le-ltb _ _ (s .coded))
+            ∙ ap (λ (w : Asked). comes rows t i (messageIn r l) (sends (codeIn (messageIn r l)) w)) asked
+
+        pub answers : Answered rows t i (messageIn r l) a (stepBy rows t r room)
+        answers = subst (Answered rows t i (messageIn r l) a) (sym message-comes) (answered i (messageIn r l) a asked)
