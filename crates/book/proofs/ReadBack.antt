@@ -12,7 +12,7 @@ use borrow.Author.Tests.{eqb-false}
 use Rattle.ledger.specs.Choice.{pick, _⇒_∣_}
 use Rattle.octets.specs.Blocks.{flat}
 use Rattle.octets.proofs.Laws.{flat-length}
-use Rattle.paper.specs.RecordsOut.{Record, order, flush, up, bytesOf, allBytes}
+use Rattle.paper.specs.RecordsOut.{Record, order, flush, up, bytesOf, allBytes, sizeOut}
 use Rattle.paper.specs.Replies.{fieldsOf, goesAsC, contentOf}
 use Rattle.paper.specs.declared.LineOrder.{LineOrder}
 use Rattle.paper.specs.declared.LineOrder.the-variants as lineOrder
@@ -21,7 +21,6 @@ use Rattle.paper.specs.declared.Reply.the-variants as reply
 use Rattle.paper.specs.declared.Input.{Input}
 use Rattle.paper.specs.declared.Input.the-variants as input
 use Rattle.paper.specs.declared.Correlation.{Correlation}
-use Rattle.transcript.specs.Transcript.{sizeOut}
 use Rattle.book.specs.declared.End.{End}
 use Rattle.book.specs.declared.End.the-variants.{Accepted, Denied, Withdrawn, Dropped}
 use Rattle.book.specs.declared.Line.{Line}

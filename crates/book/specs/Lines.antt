@@ -9,11 +9,11 @@ use Rattle.octets.specs.Numbers.{be32At}
 use Rattle.paper.specs.RecordsIn.{inputOf}
 use Rattle.paper.specs.declared.Input.{Input}
 use Rattle.paper.specs.declared.Input.the-variants as input
-use Rattle.transcript.specs.Transcript.{isMessage, sizeOut}
 use Rattle.book.specs.declared.End.{End}
 use Rattle.book.specs.declared.End.the-variants.{Accepted, Denied, Withdrawn, Dropped}
 use Rattle.book.specs.declared.Line.{Line}
 use Rattle.book.specs.declared.Line.the-variants.{Began, Came, Went, Given, Nothing}
+use Rattle.paper.specs.RecordsOut.{isMessage, sizeOut}
 
 -- ---- the record lent
 

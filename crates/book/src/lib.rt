@@ -106,7 +106,7 @@ pub fn line_at(q: Input, b: &[u8]) -> Line
     if kind == b'd' {
         return end_line(named, n, parting(q));
     }
-    if transcript::is_message(kind) {
+    if paper::is_message(kind) {
         return up_line(b);
     }
     Line::Nothing

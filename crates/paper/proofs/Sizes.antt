@@ -1,14 +1,15 @@
 -- A reply has the size that the paper's table gives: each field takes four bytes, and the addresses that a size counts
 -- make up the rest.
-use Prim.Native.Nat.{ℕ, _+_, _*_}
+use Prim.Native.Nat.{ℕ, _+_, _*_, _≤_}
 use native.Mathlib.Omega.{arith}
 use mathlib.Core.Path.{_≡_, refl}
 use mathlib.Core.List.{List}
 use lib.ListN.{length, length-append}
-use Rattle.ledger.proofs.Tallies.{picked}
+use Rattle.ledger.proofs.Tallies.{picked, chosen}
 use Rattle.octets.specs.Blocks.{flat}
 use Rattle.octets.proofs.Laws.{flat-length}
 use Rattle.paper.specs.Base.{isAmong, toldStates}
+use Rattle.paper.specs.RecordsOut.{sizeOut}
 use Rattle.paper.specs.Replies.{infoOf, fieldsOf, contentOf, replySize, addressBytes}
 use Rattle.paper.specs.declared.Stream.{Stream}
 use Rattle.paper.specs.declared.Reply.{Reply}
@@ -36,3 +37,13 @@ fields-size ResetCon = refl
 pub reply-size : (r : Reply) (tail : List ℕ) → length (contentOf r tail) + addressBytes r ≡ replySize r + length tail
 unfolding contentOf
 reply-size r tail = omega (arith, length-append (flat (fieldsOf r)) tail, flat-length (fieldsOf r), fields-size r)
+
+-- a record out has at least its kind and its stream, and at most what a message has
+pub size-within : (k : ℕ) → (2 ≤ sizeOut k) × (sizeOut k ≤ 99)
+unfolding sizeOut
+size-within k =
+    chosen fits _ _ _ (λ e. omega arith)
+    (λ e. chosen fits _ _ _ (λ e. omega arith) (λ e. chosen fits _ _ _ (λ e. omega arith) (λ e. chosen fits _ _ _ (λ e. omega arith) (λ e. omega arith))))
+  where
+    fits : ℕ → Type 0
+    fits n = (2 ≤ n) × (n ≤ 99)

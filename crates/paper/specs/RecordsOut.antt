@@ -3,7 +3,8 @@ use Prim.Native.Nat.{ℕ}
 use mathlib.Core.Bool.{Bool, true, false}
 use mathlib.Core.List.{List, [], _∷_, _++_}
 use lib.ListN.{length}
-use Rattle.ledger.specs.Choice.{pick}
+use lib.Dec.{eqb}
+use Rattle.ledger.specs.Choice.{pick, either, _⇒_∣_}
 use Rattle.octets.specs.Numbers.{be32}
 use Rattle.octets.specs.Blocks.{pad}
 use Rattle.paper.specs.Replies.{goesAsC, contentOf}
@@ -46,3 +47,17 @@ flushIf false s = []
 
 unfoldable pub inOrder : List Record → List Record → List Record → List Record
 inOrder orders flushes ups = orders ++ flushes ++ ups
+
+-- ---- records out as they stand in the room, one behind the other
+
+abbrev pub isMessage : ℕ → Bool
+isMessage k = either (eqb k 80) (eqb k 67)  -- P, C
+
+-- The size of a record out, by its kind.
+unfoldable pub sizeOut : ℕ → ℕ
+sizeOut k =
+    isMessage k ⇒ 99
+    ∣ eqb k 99 ⇒ 9  -- c: stream, called address
+    ∣ eqb k 97 ⇒ 6  -- a: stream, correlation
+    ∣ eqb k 100 ⇒ 10  -- d: stream, correlation, reason
+    ∣ 2  -- F, r, s: stream

@@ -1,8 +1,11 @@
 // The rule paper's quantities, states, requests, rules, state rows, effects and records, as values. What each means stands in specs/.
+mod kinds;
 mod states;
 
 ghost use mathlib.Core.Path.{_≡_};
 ghost use Rattle.paper.specs.Base.{numberOf, stateOf};
+pub use kinds::is_message;
+pub use kinds::size_out;
 pub use states::holds_binding;
 pub use states::is_calling;
 pub use states::is_connection;

@@ -15,7 +15,7 @@ use Rattle.paper.specs.declared.Input.{Input}
 use Rattle.paper.specs.declared.Input.the-variants as input
 use Rattle.paper.specs.declared.Kind.{Kind}
 use Rattle.paper.specs.declared.Kind.the-variants as kind
-use Rattle.transcript.specs.Transcript.{isMessage}
+use Rattle.paper.specs.RecordsOut.{isMessage}
 
 abbrev KindLetter : ℕ → Kind → Type 0
 KindLetter b kind.AddPpa = b ≡ 71

@@ -11,10 +11,9 @@ use Rattle.octets.specs.Numbers.{be32At}
 use Rattle.paper.specs.Base.{isIn, Table, slot}
 use Rattle.paper.specs.Messages.{askedBy}
 use Rattle.paper.specs.RecordsIn.{inputOf, messageIn}
-use Rattle.paper.specs.RecordsOut.{Record}
+use Rattle.paper.specs.RecordsOut.{Record, isMessage}
 use Rattle.paper.specs.ErrorOrder.{isWaiting}
 use Rattle.image.specs.Layout.{joined}
-use Rattle.transcript.specs.Transcript.{isMessage}
 use Rattle.book.specs.Lines.{recordsIn}
 use Rattle.paper.specs.declared.Input.the-variants as input
 use Rattle.paper.specs.declared.Asked.the-variants.{For}

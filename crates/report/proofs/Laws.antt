@@ -13,8 +13,8 @@ use Rattle.octets.specs.Runs.{paste}
 use Rattle.octets.proofs.Laws.{paste-join}
 use Rattle.text.proofs.Laws.{decimal-most, after, paste-nothing}
 use Rattle.paper.specs.declared.Input.{Input}
-use Rattle.transcript.specs.Transcript.{sizeOut}
-use Rattle.transcript.proofs.Laws.{size-within}
+use Rattle.paper.specs.RecordsOut.{sizeOut}
+use Rattle.paper.proofs.Sizes.{size-within}
 use Rattle.book.specs.declared.End.{End}
 use Rattle.book.specs.declared.End.the-variants.{Accepted, Denied, Withdrawn, Dropped}
 use Rattle.book.specs.declared.Line.{Line}

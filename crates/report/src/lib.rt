@@ -236,7 +236,7 @@ fn tell_records(register: &mut [u64], out: &mut [u8], at: usize, q: Input, writt
     let mut i = 0;
     while i < written.len() {
         e = tell(register, out, e, book::line_at(q, &written[i..]));
-        i += transcript::size_out(written[i]);
+        i += paper::size_out(written[i]);
     }
     e
 }

@@ -9,19 +9,12 @@ use Rattle.ledger.proofs.Tallies.{chosen, empty}
 use Rattle.octets.specs.Runs.{part}
 use Rattle.text.specs.Digits.{decimal, hex}
 use Rattle.text.proofs.Laws.{decimal-most, hex-length}
-use Rattle.transcript.specs.Transcript.{sizeOut, shownOf, pair, spaced, lineOf, linesOf, wordRefused, wordOpen, wordOk, callText, wordRecords, wordRefusedEnd, totals}
+use Rattle.transcript.specs.Transcript.{shownOf, pair, spaced, lineOf, linesOf, wordRefused, wordOpen, wordOk, callText, wordRecords, wordRefusedEnd, totals}
+use Rattle.paper.specs.RecordsOut.{sizeOut}
+use Rattle.paper.proofs.Sizes.{size-within}
 
 -- ---- how long
 
--- a record out has at least its kind and its stream, and at most what a message has
-pub size-within : (k : ℕ) → (2 ≤ sizeOut k) × (sizeOut k ≤ 99)
-unfolding sizeOut
-size-within k =
-    chosen fits _ _ _ (λ e. omega arith)
-    (λ e. chosen fits _ _ _ (λ e. omega arith) (λ e. chosen fits _ _ _ (λ e. omega arith) (λ e. chosen fits _ _ _ (λ e. omega arith) (λ e. omega arith))))
-  where
-    fits : ℕ → Type 0
-    fits n = (2 ≤ n) × (n ≤ 99)
 
 -- no more is shown than is there
 part-within : (r : List ℕ) (at n : ℕ) → length (part r at n) ≤ length r

@@ -6,21 +6,8 @@ use lib.ListN.{length, getD, take, drop}
 use lib.Dec.{eqb, ltb}
 use Rattle.ledger.specs.Choice.{either, _⇒_∣_}
 use Rattle.octets.specs.Runs.{part}
+use Rattle.paper.specs.RecordsOut.{isMessage, sizeOut}
 use Rattle.text.specs.Digits.{decimal, hex}
-
--- ---- records out, as they stand in the room
-
-abbrev pub isMessage : ℕ → Bool
-isMessage k = either (eqb k 80) (eqb k 67)  -- P, C
-
--- The size of a record out, by its kind.
-unfoldable pub sizeOut : ℕ → ℕ
-sizeOut k =
-    isMessage k ⇒ 99
-    ∣ eqb k 99 ⇒ 9  -- c: stream, called address
-    ∣ eqb k 97 ⇒ 6  -- a: stream, correlation
-    ∣ eqb k 100 ⇒ 10  -- d: stream, correlation, reason
-    ∣ 2  -- F, r, s: stream
 
 -- What a line shows behind the stream: of a message its bytes up to L, of other kinds the body's other fields.
 unfoldable pub shownOf : List ℕ → List ℕ

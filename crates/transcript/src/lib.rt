@@ -3,42 +3,17 @@ ghost use mathlib.Core.Path.{_≡_};
 ghost use Prim.Native.Nat.{_+_, _≤_};
 ghost use lib.ListN.{length, take};
 ghost use Rattle.octets.specs.Runs.{paste};
-ghost use Rattle.transcript.specs.Transcript.{isMessage, sizeOut, shownOf, pair, spaced, lineOf, allLines, refusedLine, openLine, okLine, callText, title, totals};
-
-pub fn is_message(kind: u8) -> bool
-    ensures { λ q. ⌜ q ≡ isMessage kind ⌝ }
-{
-    kind == b'P' || kind == b'C'
-}
-
-// The size of a record out, by its kind.
-pub fn size_out(kind: u8) -> usize
-    ensures { λ n. ⌜ n ≡ sizeOut kind ⌝ }
-{
-    if is_message(kind) {
-        return 99;
-    }
-    if kind == b'c' {
-        return 9;
-    }
-    if kind == b'a' {
-        return 6;
-    }
-    if kind == b'd' {
-        return 10;
-    }
-    2
-}
+ghost use Rattle.transcript.specs.Transcript.{shownOf, pair, spaced, lineOf, allLines, refusedLine, openLine, okLine, callText, title, totals};
 
 // What a line shows behind the stream: of a message its bytes up to L, of other kinds the body's other fields.
 fn shown<'a>(r: &'a [u8]) -> &'a [u8]
     ensures { λ s. ⌜ now s ≡ shownOf (now (r .entry)) ⌝ }
 {
     let kind = octets::byte_at(r, 0);
-    if is_message(kind) {
+    if paper::is_message(kind) {
         return octets::part_at(r, 3, octets::byte_at(r, 2) as usize);
     }
-    octets::part_at(r, 2, size_out(kind) - 2)
+    octets::part_at(r, 2, paper::size_out(kind) - 2)
 }
 
 // The fields in hex behind a space; nothing where there are none.
@@ -84,7 +59,7 @@ fn put_lines(out: &mut [u8], at: usize, n: u64, rs: &[u8]) -> usize
     let mut i = 0;
     while i < rs.len() {
         e = put_line(out, e, n, &rs[i..]);
-        i += size_out(rs[i]);
+        i += paper::size_out(rs[i]);
     }
     e
 }

@@ -6,7 +6,7 @@ use denote.Ref.{now}
 use lib.ListN.{length, getD, take, drop, length-drop}
 use lib.Seq.{take-all}
 use borrow.Author.Needs.{needs}
-use Rattle.transcript.proofs.Laws.{size-within}
+use Rattle.paper.proofs.Sizes.{size-within}
 use Rattle.book.specs.Lines.{lineAt, linesIn}
 use Rattle.report.specs.Report.{lineText}
 use Rattle.report.proofs.Laws.{record-most, Telling, all-telling, less-telling, none-telling}

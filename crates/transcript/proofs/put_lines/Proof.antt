@@ -10,10 +10,12 @@ use lib.Seq.{take-all}
 use Rattle.octets.specs.Runs.{paste}
 use Rattle.octets.proofs.Laws.{paste-join}
 use Rattle.text.proofs.Laws.{paste-nothing}
-use Rattle.transcript.specs.Transcript.{sizeOut, lineOf, linesOf, allLines}
-use Rattle.transcript.proofs.Laws.{size-within, line-most, lines-end, lines-next}
+use Rattle.transcript.specs.Transcript.{lineOf, linesOf, allLines}
+use Rattle.transcript.proofs.Laws.{line-most, lines-end, lines-next}
 use Rattle.transcript.proofs.put_lines.Statement.{statement}
 use Rattle.transcript.proofs.put_lines.Tie as tie
+use Rattle.paper.specs.RecordsOut.{sizeOut}
+use Rattle.paper.proofs.Sizes.{size-within}
 
 -- k lines at most are still to come, behind e, of the bytes from i on
 pub record Coming (out₀ : List ℕ) (at n : ℕ) (rs out : List ℕ) (e i : ℕ) : Type 0 where

@@ -3,7 +3,7 @@ use native.Mathlib.Omega.{arith}
 use borrow.Author.Needs.{needs}
 use Rattle.ledger.specs.Choice.{_⇒_∣_}
 use Rattle.transcript.specs.Transcript.{shownOf}
-use Rattle.transcript.proofs.Laws.{size-within}
+use Rattle.paper.proofs.Sizes.{size-within}
 use Rattle.transcript.proofs.shown.Statement.{statement}
 use Rattle.transcript.proofs.shown.Tie as tie
 

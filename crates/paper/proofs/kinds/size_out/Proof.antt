@@ -1,10 +1,10 @@
--- `transcript::size_out` meets its contract: one test after another.
+-- `paper::size_out` meets its contract: one test after another.
 use borrow.Author.Tests.{eq-eqb, ne-eqb}
 use borrow.Author.Needs.{needs}
 use Rattle.ledger.specs.Choice.{_⇒_∣_}
-use Rattle.transcript.specs.Transcript.{sizeOut}
-use Rattle.transcript.proofs.size_out.Statement.{statement}
-use Rattle.transcript.proofs.size_out.Tie as tie
+use Rattle.paper.specs.RecordsOut.{sizeOut}
+use Rattle.paper.proofs.kinds.size_out.Statement.{statement}
+use Rattle.paper.proofs.kinds.size_out.Tie as tie
 
 returns : tie.Need-returns
 unfolding sizeOut _⇒_∣_

@@ -1,7 +1,7 @@
--- `transcript::is_message` meets its contract.
+-- `paper::is_message` meets its contract.
 use borrow.Author.Tests.{eq-eqb, ne-eqb}
-use Rattle.transcript.proofs.is_message.Statement.{statement}
-use Rattle.transcript.proofs.is_message.Tie as tie
+use Rattle.paper.proofs.kinds.is_message.Statement.{statement}
+use Rattle.paper.proofs.kinds.is_message.Tie as tie
 
 returns : tie.Need-returns
 returns c = rw (eq-eqb _ _ (c .if1 .taken))
