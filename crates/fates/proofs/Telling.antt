@@ -16,7 +16,7 @@ use Rattle.book.specs.declared.Line.{Line}
 use Rattle.register.specs.Register.{blank, entered, enteredAll}
 use Rattle.promises.specs.History.{saidBy, lines}
 use Rattle.promises.specs.Harness.{Lending, imageAfter, heard, Harness, heardIn, nextIn, andThen}
-use Rattle.promises.specs.Soundness.{Bytes}
+use Rattle.keeping.specs.Soundness.{Bytes}
 use Rattle.promises.proofs.Demand3.{stays-lent}
 use Rattle.promises.proofs.Harness.{fresh-taken, image-more, lines-more}
 use Rattle.fates.specs.Told.{Told, linesBy}

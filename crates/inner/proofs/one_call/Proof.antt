@@ -10,7 +10,7 @@ use lib.ListN.{replicate}
 use borrow.Author.Needs.{needs}
 use Rattle.image.specs.Layout.{soundImage}
 use Rattle.outcomes.specs.Leaving.{Left}
-use Rattle.promises.proofs.Images.{call-keeps}
+use Rattle.keeping.proofs.Images.{call-keeps}
 use Rattle.inner.proofs.one_call.Statement.{statement}
 use Rattle.inner.proofs.one_call.Tie as tie
 

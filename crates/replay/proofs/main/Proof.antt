@@ -2,7 +2,7 @@
 use mathlib.Core.Path.{ap, _∙_}
 use borrow.Author.Needs.{needs}
 use Rattle.image.specs.Layout.{soundImage}
-use Rattle.promises.proofs.Images.{fresh-image}
+use Rattle.keeping.proofs.Images.{fresh-image}
 use Rattle.replay.proofs.main.Statement.{statement}
 use Rattle.replay.proofs.main.Tie as tie
 

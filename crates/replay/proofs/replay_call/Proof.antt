@@ -11,7 +11,7 @@ use Rattle.image.specs.Layout.{soundImage}
 use Rattle.outcomes.specs.Leaving.{Left}
 use Rattle.transcript.proofs.Laws.{call-most}
 use Rattle.replay.specs.Printed.{printed}
-use Rattle.promises.proofs.Images.{call-keeps}
+use Rattle.keeping.proofs.Images.{call-keeps}
 use Rattle.replay.proofs.replay_call.Statement.{statement}
 use Rattle.replay.proofs.replay_call.Tie as tie
 

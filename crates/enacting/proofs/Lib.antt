@@ -1,0 +1,2 @@
+-- Laws of effects enacted that callers may cite.
+pub mod Laws

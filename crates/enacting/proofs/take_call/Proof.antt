@@ -1,0 +1,43 @@
+use Prim.Native.Nat.{_<_}
+use mathlib.Core.Path.{sym, subst, _∙_}
+use mathlib.Core.List.{[], _∷_, _++_}
+use denote.Ref.{now}
+use lib.ListN.{length}
+use Rattle.paper.specs.Base.{Table, waiting, withCalls, withCounter}
+use Rattle.paper.specs.Effects.{changed}
+use Rattle.image.specs.Layout.{tableOf}
+use Rattle.image.proofs.Shapes.{shaped-counter}
+use Rattle.outcomes.proofs.Laws.{lent-after, table-after, change-after}
+use borrow.Author.Needs.{needs}
+use Rattle.enacting.proofs.take_call.Statement.{statement}
+use Rattle.enacting.proofs.take_call.Tie as tie
+
+add-call-requires : tie.Need-add-call-requires
+unfolding withCounter
+add-call-requires c κs =
+    let a = c .before .before .before .before .before .before .before in
+    let t = tableOf (now (a .args .img)) in
+    let n = c .before .before .before .before .wrapping-add-u32 .result in
+    let k = shaped-counter t (a .pre .2 .shaped) n in
+    let e = c .before .before .before .store-counter .ensures in
+    (a .pre .0, search needs, lent-after (withCounter t n) k _ e, subst (λ (u : Table). length (waiting u (a .args .i)) < 8) (sym (table-after (withCounter t n) k _ e)) (a .pre .3))
+
+returns : tie.Need-returns
+unfolding changed withCounter
+returns c =
+    let a = c .before .before .before .before .before .before .before .before .before .before in
+    let t = tableOf (now (a .args .img)) in
+    let n = c .before .before .before .before .before .before .before .wrapping-add-u32 .result in
+    c .before .before .add-call .ensures
+    ∙ change-after (withCounter t n) (shaped-counter t (a .pre .2 .shaped) n) (λ (u : Table). withCalls u (a .args .i) (a .args .s) (waiting u (a .args .i) ++ (a .args .n .0 ∷ []))) _ (c .before .before .before .before .before .before .store-counter .ensures)
+    ∙ rw (c .before .before .before .before .before .before .before .wrapping-add-u32 .ensures)
+
+pub take-call-spec : {M : Type 1} → statement M
+take-call-spec =
+    tie.close
+    (tie.spec
+    (λ c κs. search needs)
+    (λ c κs. search needs)
+    add-call-requires
+    (λ c. search needs)
+    returns)

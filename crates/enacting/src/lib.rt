@@ -1,0 +1,179 @@
+// An effect enacted: its records are written to the lent room, then the lent table is changed.
+ghost use mathlib.Core.Path.{_≡_};
+ghost use mathlib.Core.Bool.{true};
+ghost use mathlib.Core.List.{[], _∷_};
+ghost use Prim.Native.Nat.{_<_, _≤_};
+ghost use lib.ListN.{length};
+ghost use Rattle.octets.specs.Runs.{over};
+ghost use Rattle.paper.specs.Base.{Slot, slot, waiting, macAt};
+ghost use Rattle.paper.specs.RecordsOut.{order, up, bytesOf, allBytes};
+ghost use Rattle.paper.specs.Refusals.{served};
+ghost use Rattle.paper.specs.Effects.{changed, carried, enacted, namedBy, behindOrder, ordersIn, behindReply, upsIn, told};
+ghost use Rattle.image.specs.Layout.{tableOf, imageOf};
+ghost use Rattle.image.specs.Lent.{Lent};
+ghost use Rattle.outcomes.specs.Leaving.{left, leaving};
+ghost use Rattle.enacting.specs.Takes.{takes};
+use paper::Change;
+use paper::Correlation;
+use paper::Effect;
+use paper::LineOrder;
+use paper::Reply;
+use paper::Saying;
+use paper::State;
+use paper::Stream;
+use paper::Telling;
+
+// ---- the table
+
+// A stream takes one more open indication, and the counter stands one past its number.
+fn take_call(img: &mut [u8], i: u8, s: Stream, n: Correlation)
+    requires { ⌜ (i < 16) × (length (now img) ≡ 760) × Lent (now img) × (length (waiting (tableOf (now img)) i) < 8) ⌝ }
+    ensures { λ _. ⌜ now (img .exit) ≡ imageOf (changed (tableOf (now (img .entry))) i (Change.Takes s n)) ⌝ }
+{
+    image::store_counter(img, std::num::wrapping_add_u32(n.0, 1));
+    calls::add_call(img, i as usize, s, n);
+}
+
+// A stream loses an open indication, and goes to another state where it was the last.
+fn lose_call(img: &mut [u8], i: u8, s: Stream, n: Correlation, last: State)
+    requires { ⌜ (i < 16) × (length (now img) ≡ 760) × Lent (now img) ⌝ }
+    ensures { λ _. ⌜ now (img .exit) ≡ imageOf (changed (tableOf (now (img .entry))) i (Change.Loses s n last)) ⌝ }
+{
+    let at = i as usize;
+    if calls::remaining(img, at, n) == 0 {
+        calls::remove_call(img, at, rules::settled(last, s), n);
+        return;
+    }
+    calls::remove_call(img, at, s, n);
+}
+
+fn change_stream(img: &mut [u8], i: u8, change: Change)
+    requires { ⌜ (i < 16) × (length (now img) ≡ 760) × Lent (now img) × (takes change ≡ true → length (waiting (tableOf (now img)) i) < 8) ⌝ }
+    ensures { λ _. ⌜ now (img .exit) ≡ imageOf (changed (tableOf (now (img .entry))) i change) ⌝ }
+{
+    match change {
+        Change::Stays => {}
+        Change::Becomes(s) => image::store_stream(img, i as usize, s),
+        Change::Takes(s, n) => take_call(img, i, s, n),
+        Change::Loses(s, n, last) => lose_call(img, i, s, n, last),
+    }
+}
+
+// The carrying stream goes to 11. Past the table's end there is none.
+fn carry(img: &mut [u8], c: u8, carries: bool)
+    requires { ⌜ (length (now img) ≡ 760) × Lent (now img) ⌝ }
+    ensures { λ _. ⌜ now (img .exit) ≡ imageOf (carried (tableOf (now (img .entry))) c carries) ⌝ }
+{
+    if carries && c < 16 {
+        let at = c as usize;
+        let s = image::load_stream(img, at);
+        image::store_stream(img, at, rules::settled(State::DataXfer, s));
+    }
+}
+
+// ---- the records
+
+// The stream that an order names.
+fn named_by(i: u8, c: u8, o: LineOrder) -> u8
+    ensures { λ r. ⌜ r ≡ namedBy i c o ⌝ }
+{
+    match o {
+        LineOrder::Connect(_) => i,
+        LineOrder::Accept(_) => c,
+        LineOrder::Disconnect(_, _) => i,
+        LineOrder::Reset => i,
+        LineOrder::ResetAnswer => i,
+    }
+}
+
+// An order to the line. The address of a connect is handed on as that part of the message. (No order reads the stream's
+// own slot.)
+fn put_order(room: &mut [u8], i: u8, c: u8, m: &[u8], o: LineOrder) -> usize
+    requires { ⌜ 10 ≤ length (now room) ⌝ }
+    ensures { λ n. ⌜ (n ≤ 10) × ((own : Slot) → (n ≡ length (bytesOf (order (namedBy i c o) o (behindOrder own (now (m .entry)) o)))) × (now (room .exit) ≡ over (bytesOf (order (namedBy i c o) o (behindOrder own (now (m .entry)) o))) (now (room .entry)))) ⌝ }
+{
+    let s = named_by(i, c, o);
+    match o {
+        LineOrder::Connect(at) => replies::put_connect(room, s, at, messages::address_in(m, at)),
+        _ => replies::put_order(room, s, o),
+    }
+}
+
+// What the line is told.
+fn put_orders(room: &mut [u8], i: u8, c: u8, m: &[u8], telling: Telling) -> usize
+    requires { ⌜ 10 ≤ length (now room) ⌝ }
+    ensures { λ n. ⌜ (n ≤ 10) × ((own : Slot) → (n ≡ length (allBytes (ordersIn i c own (now (m .entry)) telling))) × (now (room .exit) ≡ over (allBytes (ordersIn i c own (now (m .entry)) telling)) (now (room .entry)))) ⌝ }
+{
+    match telling {
+        Telling::Untold => 0,
+        Telling::Tells(o) => put_order(room, i, c, m, o),
+    }
+}
+
+// The MAC of the PPA that a stream is attached to.
+fn mac_at(img: &[u8], i: u8) -> [u8; 6]
+    requires { ⌜ (i < 16) × (length (now img) ≡ 760) × Lent (now img) ⌝ }
+    ensures { λ r. ⌜ r ≡ macAt (tableOf (now (img .entry))) i ⌝ }
+{
+    let p = image::ppa_at(img, i as usize);
+    lookup::mac_of(img, p)
+}
+
+// A message up. INFO_ACK and BIND_ACK end in the stream's address, CONNECT_IND and CONNECT_CON in what the event's record
+// brings.
+fn put_up(img: &[u8], room: &mut [u8], i: u8, m: &[u8], reply: Reply) -> usize
+    requires { ⌜ (i < 16) × (length (now img) ≡ 760) × Lent (now img) × (99 ≤ length (now room)) ⌝ }
+    ensures { λ n. ⌜ (n ≡ 99) × (now (room .exit) ≡ over (bytesOf (up i reply (behindReply (macAt (tableOf (now (img .entry))) i) (now (m .entry)) reply))) (now (room .entry))) ⌝ }
+{
+    match reply {
+        Reply::InfoAck(s) => {
+            let mac = mac_at(img, i);
+            replies::put_info_ack(room, i, s, mac)
+        }
+        Reply::BindAck(sap, granted) => {
+            let mac = mac_at(img, i);
+            replies::put_bind_ack(room, i, mac, sap, granted)
+        }
+        Reply::ConnectInd(_) => replies::put_up(room, i, reply, octets::part_at(m, 5, 14)),
+        Reply::ConnectCon => replies::put_up(room, i, reply, octets::part_at(m, 2, 7)),
+        _ => replies::put_up(room, i, reply, &[0u8; 0]),
+    }
+}
+
+// What the stream's user is told.
+fn put_ups(img: &[u8], room: &mut [u8], i: u8, m: &[u8], saying: Saying) -> usize
+    requires { ⌜ (i < 16) × (length (now img) ≡ 760) × Lent (now img) × (99 ≤ length (now room)) ⌝ }
+    ensures { λ n. ⌜ (n ≡ length (allBytes (upsIn i (macAt (tableOf (now (img .entry))) i) (now (m .entry)) saying))) × (n ≤ 99) × (now (room .exit) ≡ over (allBytes (upsIn i (macAt (tableOf (now (img .entry))) i) (now (m .entry)) saying)) (now (room .entry))) ⌝ }
+{
+    match saying {
+        Saying::Unsaid => 0,
+        Saying::Says(reply) => put_up(img, room, i, m, reply),
+    }
+}
+
+// The order first, then F, then the message up, each right behind the one before.
+fn put_records(img: &[u8], room: &mut [u8], i: u8, c: u8, m: &[u8], e: Effect) -> usize
+    requires { ⌜ (i < 16) × (length (now img) ≡ 760) × Lent (now img) × (128 ≤ length (now room)) ⌝ }
+    ensures { λ n. ⌜ (n ≡ length (allBytes (told i c (slot (tableOf (now (img .entry))) i) (macAt (tableOf (now (img .entry))) i) (now (m .entry)) e))) × (n ≤ 111) × (now (room .exit) ≡ over (allBytes (told i c (slot (tableOf (now (img .entry))) i) (macAt (tableOf (now (img .entry))) i) (now (m .entry)) e)) (now (room .entry))) ⌝ }
+{
+    let telling = e.order;
+    let saying = e.up;
+    let a = put_orders(room, i, c, m, telling);
+    let b = a + replies::put_flush_if(&mut room[a..], e.flush, i);
+    b + put_ups(img, &mut room[b..], i, m, saying)
+}
+
+// ---- the call
+
+// An effect on stream i, where stream c carries, of the message m, or of the event whose record m is.
+pub fn enact(img: &mut [u8], room: &mut [u8], i: u8, c: u8, m: &[u8], e: Effect) -> u32
+    requires { ⌜ (i < 16) × (length (now img) ≡ 760) × Lent (now img) × (128 ≤ length (now room)) × (takes (e .change) ≡ true → length (waiting (tableOf (now img)) i) < 8) ⌝ }
+    ensures { λ r. ⌜ left r (now (img .exit)) (now (room .exit)) ≡ leaving (now (img .entry)) (now (room .entry)) (served (enacted (tableOf (now (img .entry))) i c (now (m .entry)) e) (told i c (slot (tableOf (now (img .entry))) i) (macAt (tableOf (now (img .entry))) i) (now (m .entry)) e)) ⌝ }
+{
+    let change = e.change;
+    let carries = e.carries;
+    let n = put_records(img, room, i, c, m, e);
+    change_stream(img, i, change);
+    carry(img, c, carries);
+    n as u32
+}

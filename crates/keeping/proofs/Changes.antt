@@ -1,0 +1,154 @@
+-- A stream that goes to a state holds what that state holds (`settled`), so it is sound there if it held as much before and its
+-- open numbers suit the state. ATTACH and BIND alone give it something new.
+use Prim.Native.Nat.{ℕ, _≤_, _<_}
+use mathlib.Core.Path.{_≡_, refl, sym, ap, _∙_}
+use mathlib.Core.Bool.{Bool, true, false, not, false≢true}
+use mathlib.Core.List.{List}
+use lib.ListN.{length}
+use lib.Dec.{eqb, ltb, leb}
+use native.Mathlib.Omega.{arith}
+use borrow.Author.Tests.{eqb-true, ltb-true, ltb-false, lt-ltb, leb-true, not-true}
+use Rattle.ledger.specs.Choice.{both, either}
+use Rattle.ledger.specs.Tally.{occ, has}
+use Rattle.ledger.proofs.Tallies.{both-of, occ-length, picked}
+use Rattle.book.proofs.Sums.{among}
+use Rattle.paper.specs.Base.{numberOf, number, isIn, isAmong, boundStates, connectionStates, noStream, inState, attachedIn, settled, Slot, closed}
+use Rattle.paper.specs.Saps.{isSap, isType, asBindAllows}
+use Rattle.paper.specs.declared.State.{State}
+use Rattle.paper.specs.declared.Stream.{Stream}
+use Rattle.paper.specs.declared.PpaNumber.{PpaNumber}
+use Rattle.keeping.specs.Soundness.{Ok}
+
+-- ---- the lists of states
+
+-- 0 holds no binding, 9 does, and so do the states of a connection
+pub bound-attached : (n : ℕ) → has n boundStates ≡ true → eqb n 0 ≡ false
+bound-attached n h = not-true _ (among (λ (m : ℕ). not (eqb m 0)) n boundStates refl h)
+
+connection-bound : (n : ℕ) → has n connectionStates ≡ true → has n boundStates ≡ true
+connection-bound n h = among (λ (m : ℕ). has m boundStates) n connectionStates refl h
+
+-- a number of which a test fails that 9 passes is not 9
+pub not-nine : (p : ℕ → Bool) (n : ℕ) → p 9 ≡ true → p n ≡ false → eqb n 9 ≡ false
+not-nine p n h g = go (eqb n 9) refl
+  where
+    go : (b : Bool) → eqb n 9 ≡ b → b ≡ false
+    go true e = absurd (false≢true (sym g ∙ ap p (eqb-true n 9 e) ∙ h))
+    go false e = refl
+
+-- ---- what a bind leaves
+
+pub of-either : {A : Type 0} (a b : Bool) → either a b ≡ true → (a ≡ true → A) → (b ≡ true → A) → A
+of-either true b h f g = f refl
+of-either false b h f g = g h
+
+-- at most 8 are granted, in mode 1; in the other mode nothing is
+pub allows : (s : Stream) → asBindAllows s ≡ true → (s .granted ≤ 8) × (eqb (s .mode) 2 ≡ false → s .mode ≡ 1) × (0 < s .granted → s .mode ≡ 1)
+unfolding asBindAllows
+allows s h = of-either _ _ h
+    (λ e. let a : (eqb (s .mode) 1 ≡ true) × (both (isSap (s .sap)) (leb (s .granted) 8) ≡ true) = both-of _ _ e in
+    let one : s .mode ≡ 1 = eqb-true _ _ (a .0) in
+    (leb-true _ _ (both-of (isSap (s .sap)) _ (a .1) .1), λ _. one, λ _. one))
+    (λ e. let a : (eqb (s .mode) 2 ≡ true) × (both (either (isSap (s .sap)) (isType (s .sap))) (eqb (s .granted) 0) ≡ true) = both-of _ _ e in
+    let none : s .granted ≡ 0 = eqb-true _ _ (both-of (either (isSap (s .sap)) (isType (s .sap))) _ (a .1) .1) in
+    (omega arith, λ n. absurd (false≢true (sym n ∙ a .0)), λ g. absurd (omega arith)))
+
+-- ---- what a state asks of a stream that goes there
+
+pub record Fits (s : Stream) (q : State) : Type 0 where
+  pub attached : eqb (numberOf q) 0 ≡ false → isIn 0 s ≡ false
+  pub bound : has (numberOf q) boundStates ≡ true → isAmong boundStates s ≡ true
+  pub joined : has (numberOf q) connectionStates ≡ true → s .mode ≡ 1
+
+module _ (ps : List ℕ) where
+  -- a closed one is in state 0
+  pub opened : (x : Slot) → Ok ps x → isIn 0 (x .stream) ≡ false → x .isOpen ≡ true
+  opened x o h = go (x .isOpen) refl
+    where
+      go : (b : Bool) → x .isOpen ≡ b → b ≡ true
+      go true e = refl
+      go false e = absurd (false≢true (sym h ∙ ap (λ (y : Slot). isIn 0 (y .stream)) (o .shut e)))
+
+  pub eight : (x : Slot) → Ok ps x → x .stream .granted ≤ 8
+  eight x o = go (isAmong boundStates (x .stream)) refl
+    where
+      go : (b : Bool) → isAmong boundStates (x .stream) ≡ b → x .stream .granted ≤ 8
+      go true e = allows (x .stream) (o .bound e) .0
+      go false e = omega (arith, o .unbound e .2)
+
+  -- only 9 has open numbers
+  pub quiet : (x : Slot) → Ok ps x → isIn 9 (x .stream) ≡ false → length (x .waiting) ≡ 0
+  quiet x o e = omega (arith, ltb-false 0 (length (x .waiting)) (sym (o .nine) ∙ e))
+
+  pub in-nine : (x : Slot) (n : ℕ) → Ok ps x → has n (x .waiting) ≡ true → isIn 9 (x .stream) ≡ true
+  in-nine x n o h = o .nine ∙ lt-ltb 0 (length (x .waiting)) (omega (arith, ltb-true 0 (occ n (x .waiting)) h, occ-length n (x .waiting)))
+
+  -- one that holds nothing, open or not
+  pub ok-closed : Ok ps closed
+  ok-closed = record {
+    shut = λ e. refl;
+    loose = λ e. refl;
+    attached = λ e. absurd (false≢true (sym e));
+    unbound = λ e. (refl, refl, refl);
+    bound = λ e. absurd (false≢true e);
+    joined = λ e. absurd (false≢true e);
+    nine = refl;
+    few = omega arith;
+  }
+
+  -- an open one with these numbers
+  abbrev with-calls : Stream → List ℕ → Slot
+  with-calls s w = record { isOpen = true; stream = s; waiting = w }
+
+  pub ok-none : (w : List ℕ) → ltb 0 (length w) ≡ false → Ok ps (with-calls noStream w)
+  ok-none w z = record {
+    shut = λ e. absurd (false≢true (sym e));
+    loose = λ e. refl;
+    attached = λ e. absurd (false≢true (sym e));
+    unbound = λ e. (refl, refl, refl);
+    bound = λ e. absurd (false≢true e);
+    joined = λ e. absurd (false≢true e);
+    nine = sym z;
+    few = ltb-false 0 (length w) z;
+  }
+
+  pub ok-attached : (q : State) (p : PpaNumber) (w : List ℕ) → eqb (numberOf q) 0 ≡ false → has (numberOf q) boundStates ≡ false → has (p .0) ps ≡ true
+      → ltb 0 (length w) ≡ false → Ok ps (with-calls (attachedIn q p) w)
+  ok-attached q p w n b a z = record {
+    shut = λ e. absurd (false≢true (sym e));
+    loose = λ e. absurd (false≢true (sym n ∙ e));
+    attached = λ e. a;
+    unbound = λ e. (refl, refl, refl);
+    bound = λ e. absurd (false≢true (sym b ∙ e));
+    joined = λ e. absurd (false≢true (sym b ∙ connection-bound (numberOf q) e));
+    nine = not-nine (λ (m : ℕ). has m boundStates) (numberOf q) refl b ∙ sym z;
+    few = ltb-false 0 (length w) z;
+  }
+
+  -- bound, in mode 1 where the state is one of a connection
+  pub ok-bound : (s : Stream) (w : List ℕ) → isAmong boundStates s ≡ true → has (s .ppa .0) ps ≡ true → asBindAllows s ≡ true → (isAmong connectionStates s ≡ true → s .mode ≡ 1)
+      → isIn 9 s ≡ ltb 0 (length w) → length w ≤ s .granted → Ok ps (with-calls s w)
+  ok-bound s w b a l j n f = record {
+    shut = λ e. absurd (false≢true (sym e));
+    loose = λ e. absurd (false≢true (sym (bound-attached (number s) b) ∙ e));
+    attached = λ e. a;
+    unbound = λ e. absurd (false≢true (sym e ∙ b));
+    bound = λ e. l;
+    joined = j;
+    nine = n;
+    few = f;
+  }
+
+  -- A stream goes to a state, with open numbers that suit it.
+  pub ok-settled : (x : Slot) (q : State) (w : List ℕ) → Ok ps x → Fits (x .stream) q → eqb (numberOf q) 9 ≡ ltb 0 (length w) → length w ≤ x .stream .granted
+      → Ok ps (with-calls (settled q (x .stream)) w)
+  unfolding asBindAllows
+  ok-settled x q w o f n l =
+      picked P (eqb (numberOf q) 0) noStream _
+      (λ e. ok-none w (sym n ∙ ap (λ (m : ℕ). eqb m 9) (eqb-true (numberOf q) 0 e)))
+      (λ e. picked P (has (numberOf q) boundStates) _ _
+      (λ b. ok-bound (inState q (x .stream)) w b (o .attached (f .attached e)) (o .bound (f .bound b)) (f .joined) n l)
+      (λ b. ok-attached q (x .stream .ppa) w e b (o .attached (f .attached e)) (sym n ∙ not-nine (λ (m : ℕ). has m boundStates) (numberOf q) refl b)))
+    where
+      P : Stream → Type 0
+      P y = Ok ps (with-calls y w)

@@ -1,0 +1,66 @@
+-- What a call says of calls is its order's line and its message's, whatever its effect: an effect has one of each at most, and a
+-- flush says nothing.
+use Prim.Native.Nat.{ℕ}
+use mathlib.Core.Path.{_≡_, refl, ap, _∙_}
+use mathlib.Core.Bool.{Bool, true, false}
+use mathlib.Core.List.{List, [], _∷_, _++_, map}
+use Rattle.ledger.specs.Choice.{both}
+use Rattle.ledger.proofs.Tallies.{both-of, to-both}
+use Rattle.book.specs.declared.Line.{Line}
+use Rattle.book.specs.declared.Line.the-variants.{Nothing}
+use Rattle.book.proofs.Shades.{isNothing, silent}
+use Rattle.book.proofs.Said.{orderLine, replyLine, lineOf}
+use Rattle.paper.specs.Base.{Slot}
+use Rattle.paper.specs.RecordsOut.{flushIf, inOrder}
+use Rattle.paper.specs.Effects.{namedBy, ordersIn, upsIn, told}
+use Rattle.paper.specs.declared.Input.{Input}
+use Rattle.paper.specs.declared.Telling.{Telling}
+use Rattle.paper.specs.declared.Telling.the-variants.{Untold, Tells}
+use Rattle.paper.specs.declared.Saying.{Saying}
+use Rattle.paper.specs.declared.Saying.the-variants.{Unsaid, Says}
+use Rattle.paper.specs.declared.Effect.{Effect}
+
+-- the lines of an order of stream i, where stream c carries; of a flush; of a message up
+abbrev pub orderLines : Input → ℕ → ℕ → Telling → List Line
+orderLines q i c Untold = []
+orderLines q i c (Tells o) = orderLine q (namedBy i c o) o ∷ []
+
+abbrev pub flushLines : Bool → List Line
+flushLines true = Nothing ∷ []
+flushLines false = []
+
+abbrev pub upLines : ℕ → Saying → List Line
+upLines i Unsaid = []
+upLines i (Says r) = replyLine i r ∷ []
+
+abbrev pub effectLines : Input → ℕ → ℕ → Effect → List Line
+effectLines q i c e = orderLines q i c (e .order) ++ flushLines (e .flush) ++ upLines i (e .up)
+
+pub told-lines : (q : Input) (i c : ℕ) (own : Slot) (mac m : List ℕ) (e : Effect) → map (lineOf q) (told i c own mac m e) ≡ effectLines q i c e
+unfolding told inOrder ordersIn upsIn
+told-lines q i c own mac m e = go (e .order) (e .flush) (e .up)
+  where
+    last : (b : Bool) (u : Saying) → map (lineOf q) (flushIf b i ++ upsIn i mac m u) ≡ flushLines b ++ upLines i u
+    last true Unsaid = refl
+    last true (Says r) = refl
+    last false Unsaid = refl
+    last false (Says r) = refl
+
+    go : (o : Telling) (b : Bool) (u : Saying) → map (lineOf q) (ordersIn i c own m o ++ flushIf b i ++ upsIn i mac m u) ≡ orderLines q i c o ++ flushLines b ++ upLines i u
+    go Untold b u = last b u
+    go (Tells o) b u = ap (λ (l : List Line). orderLine q (namedBy i c o) o ∷ l) (last b u)
+
+-- An effect that says nothing of calls: its order and its message do not.
+pub quiet-told : (q : Input) (i c : ℕ) (own : Slot) (mac m : List ℕ) (e : Effect) → both (silent (orderLines q i c (e .order))) (silent (upLines i (e .up))) ≡ true
+    → silent (map (lineOf q) (told i c own mac m e)) ≡ true
+quiet-told q i c own mac m e h =
+    ap silent (told-lines q i c own mac m e)
+    ∙ go (orderLines q i c (e .order)) (e .flush) (upLines i (e .up)) (both-of _ _ h .0) (both-of (silent (orderLines q i c (e .order))) _ h .1)
+  where
+    front : (b : Bool) (v : List Line) → silent v ≡ true → silent (flushLines b ++ v) ≡ true
+    front true v h = h
+    front false v h = h
+
+    go : (o : List Line) (b : Bool) (v : List Line) → silent o ≡ true → silent v ≡ true → silent (o ++ flushLines b ++ v) ≡ true
+    go [] b v h g = front b v g
+    go (y ∷ o) b v h g = let c : (isNothing y ≡ true) × (silent o ≡ true) = both-of _ _ h in to-both _ _ (c .0) (go o b v (c .1) g)

@@ -1,0 +1,53 @@
+-- What a record of bytes holds is bytes; and one that adds a PPA was read whole, so that it has a MAC of 6 bytes and a number of 4.
+use Prim.Native.Nat.{ℕ, zero, suc, _+_, _≤_, _<_, _^_}
+use native.Mathlib.Omega.{arith}
+use mathlib.Core.Path.{_≡_, sym}
+use mathlib.Core.Bool.{false, false≢true}
+use mathlib.Core.List.{List}
+use lib.ListN.{length, getD, drop, replicate}
+use lib.Seq.{getD-drop}
+use lib.Dec.{eqb}
+use borrow.Author.Tests.{leb-true}
+use Rattle.ledger.proofs.Tallies.{chosen}
+use Rattle.octets.specs.Numbers.{be32At}
+use Rattle.octets.specs.Runs.{part}
+use Rattle.image.proofs.Joined.{each-take}
+use Rattle.paper.specs.RecordsIn.{kindOf, sizeOf, recordSize, inputAs, inputOf}
+use Rattle.paper.specs.declared.Kind.{Kind}
+use Rattle.paper.specs.declared.Kind.the-variants as kind
+use Rattle.paper.specs.declared.PpaNumber.{PpaNumber}
+use Rattle.paper.specs.declared.Input.{Input}
+use Rattle.paper.specs.declared.Input.the-variants as input
+use Rattle.keeping.specs.Soundness.{Bytes}
+
+pub part-bytes : (r : List ℕ) (at n : ℕ) → Bytes r → Bytes (part r at n)
+part-bytes r at n b = each-take (λ (x : ℕ). x < 256) n (drop at r) 0 (λ k. rw getD-drop (b (at + k))) (omega arith)
+
+pub no-bytes : (n : ℕ) → Bytes (replicate n 0)
+no-bytes zero j = omega arith
+no-bytes (suc n) zero = omega arith
+no-bytes (suc n) (suc j) = no-bytes n j
+
+abbrev pub Whole : List ℕ → Input → Type 0
+Whole r q = (p : PpaNumber) → q ≡ input.AddPpa p → (11 ≤ length r) × (p .0 < 2 ^ 32)
+
+-- no other kind adds one
+whole-as : (r : List ℕ) → Bytes r → (k : Kind) → sizeOf k ≤ length r → Whole r (inputAs k r)
+whole-as r b kind.AddPpa l p e = (l, let z : be32At r 1 ≡ p .0 = cc in omega (arith, b 1, b 2, b 3, b 4))
+whole-as r b kind.Open l p e = absurd (let z : _≡_ {A = ℕ} 0 1 = cc in omega arith)
+whole-as r b kind.Close l p e = absurd (let z : _≡_ {A = ℕ} 0 1 = cc in omega arith)
+whole-as r b kind.Message l p e = chosen (Whole r) _ _ _ (λ _ p e. absurd (let z : _≡_ {A = ℕ} 0 1 = cc in omega arith)) (λ _ p e. absurd (let z : _≡_ {A = ℕ} 0 1 = cc in omega arith)) p e
+whole-as r b kind.CallArrives l p e = absurd (let z : _≡_ {A = ℕ} 0 1 = cc in omega arith)
+whole-as r b kind.PeerAccepted l p e = absurd (let z : _≡_ {A = ℕ} 0 1 = cc in omega arith)
+whole-as r b kind.PeerGone l p e = absurd (let z : _≡_ {A = ℕ} 0 1 = cc in omega arith)
+whole-as r b kind.CallWithdrawn l p e = absurd (let z : _≡_ {A = ℕ} 0 1 = cc in omega arith)
+whole-as r b kind.PeerReset l p e = absurd (let z : _≡_ {A = ℕ} 0 1 = cc in omega arith)
+whole-as r b kind.ResetConfirmed l p e = absurd (let z : _≡_ {A = ℕ} 0 1 = cc in omega arith)
+whole-as r b kind.Unknown l p e = absurd (let z : _≡_ {A = ℕ} 0 1 = cc in omega arith)
+
+pub read-whole : (r : List ℕ) → Bytes r → Whole r (inputOf r)
+unfolding inputOf recordSize
+read-whole r b =
+    let k : Kind = kindOf (getD r 0 0) in
+    chosen (Whole r) _ _ _ (λ _ p e. absurd (let z : _≡_ {A = ℕ} 0 1 = cc in omega arith))
+    (λ h. whole-as r b k (chosen (λ (n : ℕ). eqb n 0 ≡ false → sizeOf k ≤ length r) _ _ _ (λ e _. leb-true _ _ e) (λ _ z. absurd (false≢true (sym z))) h))
