@@ -17,7 +17,7 @@ use Rattle.book.specs.Lines.{telling}
 use Rattle.book.proofs.Telling.{tally-telling}
 use Rattle.book.specs.Book.{Fate, stillOpen, met, Opening, isStillOpen, countOf, openOf, mark, noted, newest, onNewest, post, posts, bump, tallyLine, tallies, countsAs, countIn, hasMet, howMany, openCount, leftOpen}
 use Rattle.ledger.proofs.Tallies.{both-of}
-use Rattle.book.proofs.Sums.{pick-to}
+use Rattle.ledger.proofs.Sums.{pick-to}
 use Rattle.book.proofs.Shades.{shade, fair, fairs, open-post}
 
 -- ---- one opening: exactly one of the four fates, or open

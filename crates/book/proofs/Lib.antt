@@ -1,4 +1,3 @@
-pub mod Sums
 pub mod Shades
 pub mod Telling
 pub mod Counts

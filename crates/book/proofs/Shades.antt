@@ -14,7 +14,7 @@ use Rattle.book.specs.declared.End.{End}
 use Rattle.book.specs.declared.Line.{Line}
 use Rattle.book.specs.declared.Line.the-variants.{Began, Came, Went, Given, Nothing}
 use Rattle.book.specs.Book.{grantLine, grantBy, Fate, stillOpen, met, Opening, isStillOpen, openOf, mark, noted, newest, earlier, onNewest, post, posts, leftOpen, tallies, tallyLine}
-use Rattle.book.proofs.Sums.{pick-to}
+use Rattle.ledger.proofs.Sums.{pick-to}
 
 -- the open numbers of stream s after a line
 abbrev pub shade : ℕ → Line → List ℕ → List ℕ

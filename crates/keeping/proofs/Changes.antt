@@ -11,7 +11,7 @@ use borrow.Author.Tests.{eqb-true, ltb-true, ltb-false, lt-ltb, leb-true, not-tr
 use Rattle.ledger.specs.Choice.{both, either}
 use Rattle.ledger.specs.Tally.{occ, has}
 use Rattle.ledger.proofs.Tallies.{both-of, occ-length, picked}
-use Rattle.book.proofs.Sums.{among}
+use Rattle.ledger.proofs.Sums.{among}
 use Rattle.paper.specs.Base.{numberOf, number, isIn, isAmong, boundStates, connectionStates, noStream, inState, attachedIn, settled, Slot, closed}
 use Rattle.paper.specs.Saps.{isSap, isType, asBindAllows}
 use Rattle.paper.specs.declared.State.{State}

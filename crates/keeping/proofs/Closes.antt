@@ -14,7 +14,7 @@ use Rattle.ledger.proofs.Tallies.{chosen, empty}
 use Rattle.book.specs.declared.Line.{Line}
 use Rattle.book.specs.declared.Line.the-variants.{Went}
 use Rattle.book.specs.Lines.{parting}
-use Rattle.book.proofs.Sums.{sum-at}
+use Rattle.ledger.proofs.Sums.{sum-at}
 use Rattle.book.proofs.Shades.{silent, Silent, silence, Taken, emptied, untouched, ungranted}
 use Rattle.book.proofs.Said.{lineOf}
 use Rattle.paper.specs.Base.{isIn, Slot, closed, Table, slot, stream, waiting, ppaNumbers, withSlot}

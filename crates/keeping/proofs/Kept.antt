@@ -10,7 +10,7 @@ use Rattle.ledger.specs.Tally.{has, allOf, firstOf, free, nextFrom}
 use Rattle.ledger.proofs.Tallies.{both-of, to-both, picked, first-holds}
 use Rattle.book.specs.declared.End.the-variants.{Denied, Withdrawn}
 use Rattle.book.specs.declared.Line.the-variants.{Nothing}
-use Rattle.book.proofs.Sums.{of-asks}
+use Rattle.ledger.proofs.Sums.{of-asks}
 use Rattle.image.proofs.Joined.{part-length}
 use Rattle.calls.proofs.Next.{next-free}
 use Rattle.paper.specs.Base.{number, Slot, closed, Table, fresh, slot, stream, waiting, lowestFree, tokenOf, ppaNumbers, knows, withPpa}

@@ -11,7 +11,7 @@ use borrow.Author.Tests.{eqb-true, ltb-true, ltb-false, lt-ltb}
 use Rattle.ledger.specs.Choice.{pick}
 use Rattle.ledger.specs.Tally.{oneIf, occ, has, free}
 use Rattle.ledger.proofs.Tallies.{both-of, picked}
-use Rattle.book.proofs.Sums.{occ-append, sum-put}
+use Rattle.ledger.proofs.Sums.{occ-append, sum-put}
 use Rattle.image.proofs.Joined.{each-set, each-more}
 use Rattle.paper.specs.Base.{numberOf, isIn, boundStates, noStream, inState, attachedIn, settled, Slot, closed, justOpened, Table, slot, stream, waiting, ppaNumbers, noPpa, withSlot, withCalls, withStream, withCounter, withPpa, remembering}
 use Rattle.paper.specs.Saps.{listens}

@@ -16,7 +16,7 @@ use Rattle.book.specs.declared.End.the-variants.{Accepted}
 use Rattle.book.specs.declared.Line.{Line}
 use Rattle.book.specs.declared.Line.the-variants.{Came, Went}
 use Rattle.book.proofs.Shades.{silent}
-use Rattle.book.proofs.Sums.{occ-without}
+use Rattle.ledger.proofs.Sums.{occ-without}
 use Rattle.paper.specs.Base.{numberOf, stateOf, number, isIn, isAmong, boundStates, connectionStates, inState, settled, Slot, closed, Table, slot, stream, waiting, ppaNumbers, withSlot, withCalls}
 use Rattle.paper.specs.Correlations.{occurrences, onePast}
 use Rattle.paper.specs.Effects.{standing, changed, carried, enacted, next, less, more, acting, accepting}

@@ -9,7 +9,7 @@ use borrow.Author.Tests.{eqb-true, not-true}
 use Rattle.ledger.specs.Choice.{both, asks, _⇒_∣_}
 use Rattle.ledger.specs.Tally.{has, allOf}
 use Rattle.ledger.proofs.Tallies.{both-of}
-use Rattle.book.proofs.Sums.{of-asks}
+use Rattle.ledger.proofs.Sums.{of-asks}
 use Rattle.paper.specs.Base.{numberOf, stateOf, number, isIn, boundStates, connectionStates}
 use Rattle.paper.specs.StateRows.{stateRows, found}
 use Rattle.paper.proofs.RowFound.{row-cause, row-from, row-mode, has-all}

@@ -17,7 +17,7 @@ use Rattle.book.specs.declared.Line.{Line}
 use Rattle.book.specs.declared.Line.the-variants.{Began, Came, Went, Given}
 use Rattle.book.specs.Book.{grantBy}
 use Rattle.book.proofs.Shades.{silent, shade, shades, fairs, rooteds, openingsIn, Silent, silence, Taken}
-use Rattle.book.proofs.Sums.{there, put-in, put-same, put-cases}
+use Rattle.ledger.proofs.Sums.{there, put-in, put-same, put-cases}
 use Rattle.paper.specs.Base.{isAmong, boundStates, Slot, closed, justOpened, Table, slot, stream, waiting, withSlot, withCalls, withStream, withCounter, remembering}
 use Rattle.paper.specs.declared.Stream.{Stream}
 

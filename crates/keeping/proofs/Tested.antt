@@ -10,7 +10,7 @@ use borrow.Author.Tests.{eqb-true, eq-eqb, ltb-true, ltb-false, lt-ltb, leb-true
 use Rattle.ledger.specs.Choice.{pick, both, either}
 use Rattle.ledger.specs.Tally.{oneIf, occ, has, allOf}
 use Rattle.ledger.proofs.Tallies.{both-of, to-both, picked, all-at, at-all, empty}
-use Rattle.book.proofs.Sums.{sum-at, sum-some, all-occ, occ-all, all-sum, of-asks, to-asks}
+use Rattle.ledger.proofs.Sums.{sum-at, sum-some, all-occ, occ-all, all-sum, of-asks, to-asks}
 use Rattle.paper.specs.Base.{numberOf, isIn, isAmong, boundStates, connectionStates, Slot, closed, Table, slot, stream, waiting, ppaNumbers, noPpa}
 use Rattle.paper.specs.Saps.{asBindAllows, listens}
 use Rattle.paper.specs.Correlations.{occurrences}

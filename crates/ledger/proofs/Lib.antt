@@ -1,3 +1,4 @@
 -- Laws of tests and counts that the proofs of other crates cite.
 pub mod Tallies
 pub mod Found
+pub mod Sums

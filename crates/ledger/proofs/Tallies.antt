@@ -26,6 +26,15 @@ pub both-true : (b : Bool) → both b true ≡ b
 both-true true = refl
 both-true false = refl
 
+pub both-none : (b : Bool) → both b false ≡ false
+both-none true = refl
+both-none false = refl
+
+-- what each of two tests gives
+pub of-either : {P : Type 0} (a b : Bool) → either a b ≡ true → (a ≡ true → P) → (b ≡ true → P) → P
+of-either true b h f g = f refl
+of-either false b h f g = g h
+
 -- a test that fails leads to what follows
 pub skip {ℓ} : {A : Type ℓ} (b : Bool) (x y : A) → b ≡ false → (b ⇒ x ∣ y) ≡ y
 unfolding _⇒_∣_

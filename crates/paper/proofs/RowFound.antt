@@ -3,7 +3,7 @@
 use Prim.Native.Nat.{ℕ}
 use native.Mathlib.Omega.{arith}
 use mathlib.Core.Path.{_≡_, refl, sym, ap, _∙_}
-use mathlib.Core.Bool.{Bool, true, false, false≢true}
+use mathlib.Core.Bool.{Bool, true, false}
 use mathlib.Core.List.{List, [], _∷_}
 use lib.Dec.{eqb}
 use borrow.Author.Tests.{eqb-true, eq-eqb}
@@ -15,6 +15,7 @@ use Rattle.paper.specs.StateRows.{isRow, foundIn, found}
 use Rattle.paper.specs.declared.Stream.{Stream}
 use Rattle.paper.specs.declared.StateRow.{StateRow}
 use Rattle.paper.specs.declared.Found.the-variants.{At}
+use Rattle.ledger.proofs.Sums.{of-asks}
 
 record Taken (rows : List StateRow) (state mode cause : ℕ) (x : StateRow) : Type 0 where
   fits : isRow state mode cause x ≡ true
@@ -53,7 +54,3 @@ module _ (rows : List StateRow) (s : Stream) (cause : ℕ) {x : StateRow} (h : f
   -- and so does what holds of every row for what comes
   pub has-all-for : (p : StateRow → Bool) → allOf (λ (y : StateRow). asks (eqb (y .cause) cause) (p y)) rows ≡ true → p x ≡ true
   has-all-for p a = of-asks (eqb (x .cause) cause) (p x) (has-all (λ (y : StateRow). asks (eqb (y .cause) cause) (p y)) a) (eq-eqb _ _ row-cause)
-    where
-      of-asks : (a b : Bool) → asks a b ≡ true → a ≡ true → b ≡ true
-      of-asks true b f e = f
-      of-asks false b f e = absurd (false≢true e)

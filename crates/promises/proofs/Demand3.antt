@@ -28,7 +28,7 @@ use Rattle.paper.specs.declared.ConnectResponse.{ConnectResponse}
 use Rattle.paper.specs.declared.DisconnectRequest.{DisconnectRequest}
 use Rattle.paper.specs.declared.Request.{Request}
 use Rattle.paper.specs.declared.Request.the-variants as request
-use Rattle.book.proofs.Sums.{sum-at, sum-two}
+use Rattle.ledger.proofs.Sums.{sum-at, sum-two}
 use Rattle.promises.proofs.OutState.{gets, answers, answer-tells}
 use Rattle.promises.specs.History.{lines, fates, openBy, grantedBy, counted, indicated, accepted, denied, withdrawn, dropped, leftOpenIn, Answered}
 use Rattle.promises.proofs.Runs.{Call, run, history}

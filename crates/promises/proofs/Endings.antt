@@ -40,7 +40,7 @@ use Rattle.book.specs.Lines.{telling}
 use Rattle.book.specs.Book.{countOf, tallies, stillOpen, met, Opening, noIndication, mark, newest, onNewest, posts, noted}
 use Rattle.book.proofs.Counts.{ends-counted, ring-counted}
 use Rattle.book.proofs.Said.{lineOf, said}
-use Rattle.book.proofs.Sums.{sum-at}
+use Rattle.ledger.proofs.Sums.{sum-at}
 use Rattle.promises.proofs.ErrorAck.{errorsIn}
 use Rattle.promises.specs.History.{saidBy, lines, fates, openBy, counted, accepted, denied, withdrawn, dropped}
 use Rattle.promises.specs.Harness.{Lending, Harness, tableIn, heardIn, nextIn, andThen, CompleteIn, errorsHeard}

@@ -9,7 +9,7 @@ use native.Mathlib.Omega.{arith}
 use borrow.Author.Tests.{eqb-true, ltb-true, ltb-false, lt-ltb}
 use Rattle.ledger.specs.Tally.{oneIf, occ, has, without, free}
 use Rattle.ledger.proofs.Tallies.{both-of, length-without-le}
-use Rattle.book.proofs.Sums.{occ-append, occ-without, sum-put}
+use Rattle.ledger.proofs.Sums.{occ-append, occ-without, sum-put}
 use Rattle.image.proofs.Joined.{each-set, each-more}
 use Rattle.paper.specs.Base.{numberOf, number, isIn, inState, Slot, closed, Table, slot, stream, waiting, ppaNumbers, noPpa, withSlot, withCalls, withStream, withCounter, withPpa, remembering}
 use Rattle.paper.specs.Saps.{listens}

@@ -18,7 +18,7 @@ use Rattle.book.specs.Book.{earlier, posts, tallies}
 use Rattle.book.specs.Lines.{parting, openingLines}
 use Rattle.book.proofs.Said.{orderLine, replyLine, lineOf}
 use Rattle.book.proofs.Shades.{openings, openingsIn, openings-append, length-posts, earlier-posts}
-use Rattle.book.proofs.Sums.{put-same}
+use Rattle.ledger.proofs.Sums.{put-same}
 use Rattle.paper.specs.Base.{Slot, closed, justOpened, Table, fresh, slot, stream, waiting, lowestFree, withSlot, withCalls, withStream, withCounter, withPpa, remembering}
 use Rattle.paper.specs.Events.{eventRow, peerAccepted, peerGone, callWithdrawn, peerReset, resetConfirmed, ringing, rings, heardBy, callArrives}
 use Rattle.paper.specs.Openings.{addsPpa, opens, closes}

@@ -16,7 +16,7 @@ use Rattle.book.specs.declared.Line.the-variants.{Began, Came, Went, Given, Not
 use Rattle.book.proofs.Shades.{silent, shade, shades, fairs, rooteds, openingsIn, Silent, silence, Taken}
 use Rattle.book.specs.Book.{grantBy}
 use Rattle.ledger.proofs.Tallies.{to-both, within, picked}
-use Rattle.book.proofs.Sums.{there, put-in, put-same, put-cases}
+use Rattle.ledger.proofs.Sums.{there, put-in, put-same, put-cases}
 use Rattle.paper.specs.Base.{number, isIn, inState, Slot, closed, justOpened, Table, slot, stream, waiting, withSlot, withCalls, withStream, withCounter, remembering}
 use Rattle.paper.specs.Rows.{boundTo}
 use Rattle.paper.specs.declared.State.{State}

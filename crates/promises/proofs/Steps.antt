@@ -11,7 +11,7 @@ use borrow.Author.Tests.{eqb-true, eqb-false, eq-eqb, ltb-true, ltb-false, lt-lt
 use Rattle.ledger.specs.Choice.{pick, both, either, asks}
 use Rattle.ledger.specs.Tally.{oneIf, occ, has, without, allOf, firstOf, free, nextFrom}
 use Rattle.ledger.proofs.Tallies.{both-of, picked, to-both, chosen, empty, first-holds, either-no, first-none, length-without}
-use Rattle.book.proofs.Sums.{sum-at, of-asks, among}
+use Rattle.ledger.proofs.Sums.{sum-at, of-asks, among}
 use Rattle.paper.specs.Base.{numberOf, number, isIn, noStream, inState, Slot, closed, justOpened, Table, fresh, slot, stream, waiting, lowestFree, ppaNumbers, knows, withSlot, withCalls, withPpa, remembering}
 use Rattle.paper.specs.Saps.{isSap, isType, grantOf, listens, listener, isListenedFor}
 use Rattle.paper.specs.Messages.{codeIn, askedBy}

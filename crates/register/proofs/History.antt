@@ -14,7 +14,7 @@ use Rattle.book.specs.declared.End.{End}
 use Rattle.book.specs.declared.Line.{Line}
 use Rattle.book.specs.declared.Line.the-variants.{Began, Came, Went, Given, Nothing}
 use Rattle.book.specs.Book.{Opening, openOf, openCount, mark, noted, newest, onNewest, post, posts, countOf, bump, tallyLine, tallies, overStreams}
-use Rattle.book.proofs.Sums.{pick-to, of-asks}
+use Rattle.ledger.proofs.Sums.{pick-to, of-asks}
 use Rattle.book.proofs.Shades.{shade, fair, fairs, openings, rooted, rooteds, open-post}
 use Rattle.register.specs.Register.{blank, begun, rung, gone, entered, enteredAll}
 use Rattle.register.proofs.Cells.{zeros}

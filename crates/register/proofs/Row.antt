@@ -8,9 +8,9 @@ use lib.Dec.{eqb, ltb}
 use lib.Seq.{getD-set-same, getD-set-other, getD-append-add}
 use native.Mathlib.Omega.{arith}
 use borrow.Author.Tests.{eqb-true, eqb-false, eq-eqb, ne-eqb, lt-ltb}
-use Rattle.ledger.specs.Choice.{pick, both, _⇒_∣_}
+use Rattle.ledger.specs.Choice.{pick, _⇒_∣_}
 use Rattle.ledger.specs.Tally.{oneIf, occ}
-use Rattle.ledger.proofs.Tallies.{skip}
+use Rattle.ledger.proofs.Tallies.{skip, both-none}
 use Rattle.book.specs.Book.{Opening, isStillOpen, openOf, openCount}
 use Rattle.register.specs.Register.{freeFrom, findFrom, closeUp}
 use Rattle.register.proofs.Cells.{by-same, by-order, cell, closed-before, closed-in, closed-behind}
@@ -72,13 +72,9 @@ find-here : (k c n : ℕ) (l : List ℕ) → 0 < getD l c 0 → getD l (c + 1) 0
 unfolding findFrom
 find-here k c n l h e = takes _ _ _ (rw (lt-ltb 0 (getD l c 0) h) (eq-eqb (getD l (c + 1) 0) n e))
 
-both-no : (b : Bool) → both b false ≡ false
-both-no true = refl
-both-no false = refl
-
 find-next : (k c n : ℕ) (l : List ℕ) → (getD l (c + 1) 0 ≡ n → ⊥) → findFrom (suc k) c n l ≡ findFrom k (c + 2) n l
 unfolding findFrom
-find-next k c n l h = skip _ _ _ (rw (ne-eqb (getD l (c + 1) 0) n h) (both-no (ltb 0 (getD l c 0))))
+find-next k c n l h = skip _ _ _ (rw (ne-eqb (getD l (c + 1) 0) n h) (both-none (ltb 0 (getD l c 0))))
 
 -- it is the cell of the oldest that is still open with that number
 pub find-at : (l : List ℕ) (n : ℕ) (o : Opening) (k c p : ℕ) → 0 < p → openCount o ≤ k → 0 < occ n (openOf o) → Reads l c (k + k) (placesFrom p o) → findFrom k c n l ≡ c + spot n o

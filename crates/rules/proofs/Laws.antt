@@ -8,7 +8,7 @@ use native.Mathlib.Omega.{arith}
 use borrow.Author.Tests.{eqb-true, ltb-true, leb-true, lt-ltb}
 use Rattle.ledger.specs.Choice.{pick, both, either}
 use Rattle.ledger.specs.Tally.{oneIf, occ, has}
-use Rattle.ledger.proofs.Tallies.{both-of}
+use Rattle.ledger.proofs.Tallies.{both-of, of-either}
 use Rattle.paper.specs.Base.{numberOf, boundStates, noStream, attachedIn, inState, settled}
 use Rattle.paper.specs.Saps.{isSap, isType, reservedTypes}
 use Rattle.paper.specs.declared.State.{State}
@@ -18,11 +18,6 @@ use Rattle.paper.specs.declared.Stream.{Stream}
 pub either-false : (b : Bool) → either b false ≡ b
 either-false true = refl
 either-false false = refl
-
--- what each of two tests gives
-pub of-either : {P : Type 0} (a b : Bool) → (a ≡ true → P) → (b ≡ true → P) → either a b ≡ true → P
-of-either true b f g e = f refl
-of-either false b f g e = g e
 
 -- ---- lists of numbers
 pub has-one : (n a : ℕ) → has n (a ∷ []) ≡ eqb n a
@@ -41,7 +36,7 @@ has-more n a l = go (eqb n a)
 
 -- ---- what a bind's tests say of its numbers
 pub mode-fits : (n : ℕ) → either (eqb n 1) (eqb n 2) ≡ true → n < 256
-mode-fits n = of-either (eqb n 1) (eqb n 2) (λ e. omega (arith, eqb-true n 1 e)) (λ e. omega (arith, eqb-true n 2 e))
+mode-fits n h = of-either (eqb n 1) (eqb n 2) h (λ e. omega (arith, eqb-true n 1 e)) (λ e. omega (arith, eqb-true n 2 e))
 
 sap-under : (n : ℕ) → isSap n ≡ true → n < 65536
 unfolding isSap
@@ -54,7 +49,7 @@ type-under n e =
     omega (arith, leb-true n 0xffff (both-of (leb n 0xffff) (not (has n reservedTypes)) f .0))
 
 pub sap-fits : (n : ℕ) → either (isSap n) (isType n) ≡ true → n < 65536
-sap-fits n = of-either (isSap n) (isType n) (sap-under n) (type-under n)
+sap-fits n h = of-either (isSap n) (isType n) h (sap-under n) (type-under n)
 
 -- ---- what a stream holds in a state, by the two tests of the state
 pub settled-by : (q : State) (s : Stream) (a b : Bool) → eqb (numberOf q) 0 ≡ a → has (numberOf q) boundStates ≡ b → pick a noStream (pick b (inState q s) (attachedIn q (s .ppa))) ≡ settled q s

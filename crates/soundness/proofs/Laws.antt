@@ -11,7 +11,7 @@ use native.Mathlib.Omega.{arith}
 use borrow.Author.Tests.{eqb-true, eq-eqb, ne-eqb, lt-ltb, not-true, not-false}
 use Rattle.ledger.specs.Choice.{both}
 use Rattle.ledger.specs.Tally.{oneIf, occ, sumOf, allOf}
-use Rattle.ledger.proofs.Tallies.{at-all}
+use Rattle.ledger.proofs.Tallies.{at-all, both-none}
 use Rattle.image.specs.Layout.{areBytes, joined}
 
 -- ---- tests
@@ -32,10 +32,6 @@ told-not {r} e h = sym e ∙ not-true r h
 pub both-assoc : (a b c : Bool) → both (both a b) c ≡ both a (both b c)
 both-assoc true b c = refl
 both-assoc false b c = refl
-
-both-none : (b : Bool) → both b false ≡ false
-both-none true = refl
-both-none false = refl
 
 pub both-swap : (a b c : Bool) → both a (both b c) ≡ both b (both a c)
 both-swap true b c = refl

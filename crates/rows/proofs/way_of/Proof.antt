@@ -1,6 +1,7 @@
 use borrow.Author.Needs.{needs}
 use Rattle.paper.specs.StateRows.{infoReq, bindReq, unbindReq, attachReq, detachReq, connectReq, connectRes, tokenReq, disconnectReq, resetReq, resetRes, callArrives, peerAccepted, peerGone, callWithdrawn, peerReset, resetConfirmed}
-use Rattle.rows.proofs.Laws.{other, both-none}
+use Rattle.rows.proofs.Laws.{other}
+use Rattle.ledger.proofs.Tallies.{both-none}
 use Rattle.rows.proofs.way_of.Statement.{statement}
 use Rattle.rows.proofs.way_of.Tie as tie
 

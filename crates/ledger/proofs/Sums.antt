@@ -1,4 +1,4 @@
--- More laws of tests, counts and sums, over any list.
+-- Laws of tests, counts and sums over any list, and over one with an element replaced: each by the list, element by element.
 use Prim.Native.Nat.{ℕ, zero, suc, _+_, _≤_, _<_}
 use mathlib.Core.Path.{_≡_, refl, ap, _∙_}
 use mathlib.Core.Bool.{Bool, true, false}
