@@ -3,7 +3,7 @@
 use Prim.Native.Nat.{ℕ, _≤_, _<_}
 use native.Mathlib.Omega.{arith}
 use mathlib.Core.Path.{_≡_, refl, sym, ap, _∙_}
-use mathlib.Core.Bool.{Bool, true}
+use mathlib.Core.Bool.{true}
 use mathlib.Core.List.{List, [], _∷_, _++_}
 use lib.ListN.{length, length-append, replicate}
 use lib.Seq.{set-out}
@@ -33,8 +33,9 @@ use Rattle.paper.specs.declared.Reply.the-variants as reply
 use Rattle.image.specs.Shape.{Shaped}
 use Rattle.image.proofs.Shapes.{shaped-calls, shaped-stream, shaped-counter}
 use Rattle.image.proofs.Joined.{part-add}
-use Rattle.outcomes.proofs.Laws.{part-most}
+use Rattle.outcomes.proofs.Laws.{part-most, same-long, same-over}
 use Rattle.enacting.specs.Takes.{takes}
+use Rattle.enacting.specs.Written.{Written}
 
 -- ---- the table
 
@@ -114,7 +115,8 @@ module _ (mac : List ℕ) (six : length mac ≡ 6) where
   unfolding infoTail
   info-most s =
       let told : List ℕ = pick (isAmong toldStates s) (addressOf mac (s .sap)) [] in
-      omega (arith, length-append told (replicate 6 0xff), picked (λ (l : List ℕ). length l ≤ 8) (isAmong toldStates s) (addressOf mac (s .sap)) [] (λ z. address-most (s .sap)) (λ z. omega arith))
+      let most : length told ≤ 8 = picked (λ (l : List ℕ). length l ≤ 8) (isAmong toldStates s) (addressOf mac (s .sap)) [] (λ z. address-most (s .sap)) (λ z. omega arith) in
+      omega (arith, length-append told (replicate 6 0xff), most)
 
   pub tail-most : (m : List ℕ) (r : Reply) → length (behindReply mac m r) ≤ 14
   unfolding behindReply
@@ -132,9 +134,10 @@ module _ (mac : List ℕ) (six : length mac ≡ 6) where
 -- ---- a record written is the one that was to be written, where the two are the same
 
 pub same-order : (r s : Record) → r ≡ s → (n : ℕ) (room room' : List ℕ) → n ≡ length (bytesOf r) → room' ≡ over (bytesOf r) room
-    → (n ≡ length (bytesOf s)) × (room' ≡ over (bytesOf s) room)
-same-order r s e n room room' a b = (a ∙ ap (λ (x : Record). length (bytesOf x)) e, b ∙ ap (λ (x : Record). over (bytesOf x) room) e)
+    → Written (s ∷ []) n room room'
+same-order r s e n room room' a b = (same-long r s e n a, same-over r s e room room' b)
 
+-- what stands behind its fields goes by the reply
 pub same-up : (i : ℕ) (r q : Reply) (x mac m room room' : List ℕ) → r ≡ q → room' ≡ over (bytesOf (up i q x)) room → x ≡ behindReply mac m q
     → room' ≡ over (bytesOf (up i r (behindReply mac m r))) room
 same-up i r q x mac m room room' k h e =

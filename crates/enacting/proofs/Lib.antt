@@ -1,2 +1,2 @@
--- Laws of effects enacted that callers may cite.
-pub mod Laws
+-- Laws of effects enacted that this crate's proofs cite.
+mod Laws

@@ -6,13 +6,14 @@ ghost use Prim.Native.Nat.{_<_, _≤_};
 ghost use lib.ListN.{length};
 ghost use Rattle.octets.specs.Runs.{over};
 ghost use Rattle.paper.specs.Base.{Slot, slot, waiting, macAt};
-ghost use Rattle.paper.specs.RecordsOut.{order, up, bytesOf, allBytes};
+ghost use Rattle.paper.specs.RecordsOut.{order, up, bytesOf};
 ghost use Rattle.paper.specs.Refusals.{served};
 ghost use Rattle.paper.specs.Effects.{changed, carried, enacted, namedBy, behindOrder, ordersIn, behindReply, upsIn, told};
 ghost use Rattle.image.specs.Layout.{tableOf, imageOf};
 ghost use Rattle.image.specs.Lent.{Lent};
 ghost use Rattle.outcomes.specs.Leaving.{left, leaving};
 ghost use Rattle.enacting.specs.Takes.{takes};
+ghost use Rattle.enacting.specs.Written.{Written};
 use paper::Change;
 use paper::Correlation;
 use paper::Effect;
@@ -47,6 +48,7 @@ fn lose_call(img: &mut [u8], i: u8, s: Stream, n: Correlation, last: State)
     calls::remove_call(img, at, s, n);
 }
 
+// What becomes of a stream.
 fn change_stream(img: &mut [u8], i: u8, change: Change)
     requires { ⌜ (i < 16) × (length (now img) ≡ 760) × Lent (now img) × (takes change ≡ true → length (waiting (tableOf (now img)) i) < 8) ⌝ }
     ensures { λ _. ⌜ now (img .exit) ≡ imageOf (changed (tableOf (now (img .entry))) i change) ⌝ }
@@ -90,7 +92,7 @@ fn named_by(i: u8, c: u8, o: LineOrder) -> u8
 // own slot.)
 fn put_order(room: &mut [u8], i: u8, c: u8, m: &[u8], o: LineOrder) -> usize
     requires { ⌜ 10 ≤ length (now room) ⌝ }
-    ensures { λ n. ⌜ (n ≤ 10) × ((own : Slot) → (n ≡ length (bytesOf (order (namedBy i c o) o (behindOrder own (now (m .entry)) o)))) × (now (room .exit) ≡ over (bytesOf (order (namedBy i c o) o (behindOrder own (now (m .entry)) o))) (now (room .entry)))) ⌝ }
+    ensures { λ n. ⌜ (n ≤ 10) × ((own : Slot) → Written (order (namedBy i c o) o (behindOrder own (now (m .entry)) o) ∷ []) n (now (room .entry)) (now (room .exit))) ⌝ }
 {
     let s = named_by(i, c, o);
     match o {
@@ -102,7 +104,7 @@ fn put_order(room: &mut [u8], i: u8, c: u8, m: &[u8], o: LineOrder) -> usize
 // What the line is told.
 fn put_orders(room: &mut [u8], i: u8, c: u8, m: &[u8], telling: Telling) -> usize
     requires { ⌜ 10 ≤ length (now room) ⌝ }
-    ensures { λ n. ⌜ (n ≤ 10) × ((own : Slot) → (n ≡ length (allBytes (ordersIn i c own (now (m .entry)) telling))) × (now (room .exit) ≡ over (allBytes (ordersIn i c own (now (m .entry)) telling)) (now (room .entry)))) ⌝ }
+    ensures { λ n. ⌜ (n ≤ 10) × ((own : Slot) → Written (ordersIn i c own (now (m .entry)) telling) n (now (room .entry)) (now (room .exit))) ⌝ }
 {
     match telling {
         Telling::Untold => 0,
@@ -143,7 +145,7 @@ fn put_up(img: &[u8], room: &mut [u8], i: u8, m: &[u8], reply: Reply) -> usize
 // What the stream's user is told.
 fn put_ups(img: &[u8], room: &mut [u8], i: u8, m: &[u8], saying: Saying) -> usize
     requires { ⌜ (i < 16) × (length (now img) ≡ 760) × Lent (now img) × (99 ≤ length (now room)) ⌝ }
-    ensures { λ n. ⌜ (n ≡ length (allBytes (upsIn i (macAt (tableOf (now (img .entry))) i) (now (m .entry)) saying))) × (n ≤ 99) × (now (room .exit) ≡ over (allBytes (upsIn i (macAt (tableOf (now (img .entry))) i) (now (m .entry)) saying)) (now (room .entry))) ⌝ }
+    ensures { λ n. ⌜ (n ≤ 99) × Written (upsIn i (macAt (tableOf (now (img .entry))) i) (now (m .entry)) saying) n (now (room .entry)) (now (room .exit)) ⌝ }
 {
     match saying {
         Saying::Unsaid => 0,
@@ -154,7 +156,7 @@ fn put_ups(img: &[u8], room: &mut [u8], i: u8, m: &[u8], saying: Saying) -> usiz
 // The order first, then F, then the message up, each right behind the one before.
 fn put_records(img: &[u8], room: &mut [u8], i: u8, c: u8, m: &[u8], e: Effect) -> usize
     requires { ⌜ (i < 16) × (length (now img) ≡ 760) × Lent (now img) × (128 ≤ length (now room)) ⌝ }
-    ensures { λ n. ⌜ (n ≡ length (allBytes (told i c (slot (tableOf (now (img .entry))) i) (macAt (tableOf (now (img .entry))) i) (now (m .entry)) e))) × (n ≤ 111) × (now (room .exit) ≡ over (allBytes (told i c (slot (tableOf (now (img .entry))) i) (macAt (tableOf (now (img .entry))) i) (now (m .entry)) e)) (now (room .entry))) ⌝ }
+    ensures { λ n. ⌜ (n ≤ 111) × Written (told i c (slot (tableOf (now (img .entry))) i) (macAt (tableOf (now (img .entry))) i) (now (m .entry)) e) n (now (room .entry)) (now (room .exit)) ⌝ }
 {
     let telling = e.order;
     let saying = e.up;

@@ -10,7 +10,7 @@ use native.Mathlib.Omega.{arith}
 use borrow.Author.Tests.{eqb-true, ltb-true, ltb-false, lt-ltb, leb-true, not-true}
 use Rattle.ledger.specs.Choice.{both, either}
 use Rattle.ledger.specs.Tally.{occ, has}
-use Rattle.ledger.proofs.Tallies.{both-of, occ-length, picked}
+use Rattle.ledger.proofs.Tallies.{both-of, occ-length, picked, of-either}
 use Rattle.ledger.proofs.Sums.{among}
 use Rattle.paper.specs.Base.{numberOf, number, isIn, isAmong, boundStates, connectionStates, noStream, inState, attachedIn, settled, Slot, closed}
 use Rattle.paper.specs.Saps.{isSap, isType, asBindAllows}
@@ -37,10 +37,6 @@ not-nine p n h g = go (eqb n 9) refl
     go false e = refl
 
 -- ---- what a bind leaves
-
-pub of-either : {A : Type 0} (a b : Bool) → either a b ≡ true → (a ≡ true → A) → (b ≡ true → A) → A
-of-either true b h f g = f refl
-of-either false b h f g = g h
 
 -- at most 8 are granted, in mode 1; in the other mode nothing is
 pub allows : (s : Stream) → asBindAllows s ≡ true → (s .granted ≤ 8) × (eqb (s .mode) 2 ≡ false → s .mode ≡ 1) × (0 < s .granted → s .mode ≡ 1)
@@ -83,7 +79,7 @@ module _ (ps : List ℕ) where
   pub in-nine : (x : Slot) (n : ℕ) → Ok ps x → has n (x .waiting) ≡ true → isIn 9 (x .stream) ≡ true
   in-nine x n o h = o .nine ∙ lt-ltb 0 (length (x .waiting)) (omega (arith, ltb-true 0 (occ n (x .waiting)) h, occ-length n (x .waiting)))
 
-  -- one that holds nothing, open or not
+  -- closed
   pub ok-closed : Ok ps closed
   ok-closed = record {
     shut = λ e. refl;
@@ -100,6 +96,7 @@ module _ (ps : List ℕ) where
   abbrev with-calls : Stream → List ℕ → Slot
   with-calls s w = record { isOpen = true; stream = s; waiting = w }
 
+  -- it holds nothing
   pub ok-none : (w : List ℕ) → ltb 0 (length w) ≡ false → Ok ps (with-calls noStream w)
   ok-none w z = record {
     shut = λ e. absurd (false≢true (sym e));
@@ -112,6 +109,7 @@ module _ (ps : List ℕ) where
     few = ltb-false 0 (length w) z;
   }
 
+  -- a PPA alone
   pub ok-attached : (q : State) (p : PpaNumber) (w : List ℕ) → eqb (numberOf q) 0 ≡ false → has (numberOf q) boundStates ≡ false → has (p .0) ps ≡ true
       → ltb 0 (length w) ≡ false → Ok ps (with-calls (attachedIn q p) w)
   ok-attached q p w n b a z = record {
@@ -125,7 +123,7 @@ module _ (ps : List ℕ) where
     few = ltb-false 0 (length w) z;
   }
 
-  -- bound, in mode 1 where the state is one of a connection
+  -- a binding, of mode 1 where the state is one of a connection
   pub ok-bound : (s : Stream) (w : List ℕ) → isAmong boundStates s ≡ true → has (s .ppa .0) ps ≡ true → asBindAllows s ≡ true → (isAmong connectionStates s ≡ true → s .mode ≡ 1)
       → isIn 9 s ≡ ltb 0 (length w) → length w ≤ s .granted → Ok ps (with-calls s w)
   ok-bound s w b a l j n f = record {

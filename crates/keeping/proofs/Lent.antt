@@ -10,7 +10,7 @@ use native.Mathlib.Nat.{pow-succ'}
 use borrow.Author.Tests.{eqb-true, ltb-true, lt-ltb, leb-true, eq-eqb}
 use Rattle.ledger.specs.Choice.{both, either}
 use Rattle.ledger.specs.Tally.{oneIf, occ}
-use Rattle.ledger.proofs.Tallies.{both-of, to-both, at-all}
+use Rattle.ledger.proofs.Tallies.{both-of, to-both, at-all, of-either}
 use Rattle.ledger.proofs.Sums.{sum-at}
 use Rattle.octets.specs.Numbers.{be16, be32}
 use Rattle.octets.specs.Blocks.{flat}
@@ -24,7 +24,7 @@ use Rattle.paper.proofs.StateNumbers.{each-number}
 use Rattle.image.specs.Layout.{padTo, joined, maskOf, ppaBytes, streamBytes, waitingBytes, slotBytes, headerBytes, imageOf, areBytes}
 use Rattle.image.specs.Shape.{Shaped}
 use Rattle.keeping.specs.Soundness.{Sound}
-use Rattle.keeping.proofs.Changes.{of-either, eight}
+use Rattle.keeping.proofs.Changes.{eight}
 
 pub shaped : (t : Table) → Sound t → Shaped t
 shaped t k = record { sixteen = k .sixteen; few = k .most; macs = λ j. k .macs j .0; eight = λ i. omega (arith, k .each i .few, eight (ppaNumbers t) (slot t i) (k .each i)) }

@@ -13,7 +13,14 @@ returns-2 c = rw (c .before .before .enum-told2 .given .1, c .acting2 .ensures, 
 
 returns-3 : tie.Need-returns-3
 unfolding effectOf
-returns-3 c = rw (c .before .before .before .before .before .v .given .1, c .acting3 .ensures, c .before .ok .ensures, c .before .before .attached-in .ensures, c .before .before .before .next .ensures)
+returns-3 c =
+    rw (
+      c .before .before .before .before .before .v .given .1,
+      c .acting3 .ensures,
+      c .before .ok .ensures,
+      c .before .before .attached-in .ensures,
+      c .before .before .before .next .ensures,
+    )
 
 returns-4 : tie.Need-returns-4
 unfolding effectOf
@@ -41,7 +48,15 @@ returns-9 c = rw (c .before .before .before .before .v5 .given .1, c .acting8 .e
 
 returns-10 : tie.Need-returns-10
 unfolding effectOf
-returns-10 c = rw (c .before .before .before .before .before .before .v6 .given .1, c .acting9 .ensures, c .before .ok5 .ensures, c .before .before .is-joined .ensures, c .before .before .before .onward4 .ensures, c .before .before .before .before .no-number .ensures)
+returns-10 c =
+    rw (
+      c .before .before .before .before .before .before .v6 .given .1,
+      c .acting9 .ensures,
+      c .before .ok5 .ensures,
+      c .before .before .is-joined .ensures,
+      c .before .before .before .onward4 .ensures,
+      c .before .before .before .before .no-number .ensures,
+    )
 
 returns-11 : tie.Need-returns-11
 unfolding effectOf

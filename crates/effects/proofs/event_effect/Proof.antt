@@ -13,7 +13,14 @@ returns-2 c = rw (c .before .before .enum-told .given .1, c .acting2 .ensures, c
 
 returns-3 : tie.Need-returns-3
 unfolding eventEffect
-returns-3 c = rw (c .before .before .before .before .before .event2 .given .1, c .acting3 .ensures, c .before .onward2 .ensures, c .before .before .no-number .ensures, c .before .before .before .state-number .ensures)
+returns-3 c =
+    rw (
+      c .before .before .before .before .before .event2 .given .1,
+      c .acting3 .ensures,
+      c .before .onward2 .ensures,
+      c .before .before .no-number .ensures,
+      c .before .before .before .state-number .ensures,
+    )
 
 returns-4 : tie.Need-returns-4
 unfolding eventEffect

@@ -11,14 +11,21 @@ use Rattle.enacting.proofs.carry.Tie as tie
 
 returns : tie.Need-returns
 unfolding carried
-returns c = rw (c .before .before .before .before .before .before .before .before .if1 .taken, c .before .before .store-stream .ensures, c .before .before .before .settled .ensures, c .before .before .before .before .before .load-stream .ensures)
+returns c =
+    rw (
+      c .before .before .before .before .before .before .before .before .if1 .taken,
+      c .before .before .store-stream .ensures,
+      c .before .before .before .settled .ensures,
+      c .before .before .before .before .before .load-stream .ensures,
+    )
 
 returns-2 : tie.Need-returns-2
 unfolding carried
 returns-2 c =
     let a = c .before .before in
+    let t = tableOf (now (a .args .img)) in
     ⊎-elim
-    (λ w. rw (w .0 .taken) (sym (ap imageOf (none-past (tableOf (now (a .args .img))) (a .pre .1 .shaped) (a .args .c) _ (ltb-false (a .args .c) 16 (w .1 .left))) ∙ a .pre .1 .same)))
+    (λ w. rw (w .0 .taken) (sym (ap imageOf (none-past t (a .pre .1 .shaped) (a .args .c) _ (ltb-false (a .args .c) 16 (w .1 .left))) ∙ a .pre .1 .same)))
     (λ w. rw (w .left) (sym (a .pre .1 .same)))
     (c .if1 .came)
 

@@ -18,7 +18,8 @@ returns c =
     let w = without (a .n .0) (waiting t (a .i)) in
     c .before .before .remove-call .ensures
     ∙ ap (λ (s : Stream). imageOf (withCalls t (a .i) s w))
-    (c .before .before .before .settled .ensures ∙ stands-last (a .last) (a .s) w (sym (c .before .before .before .before .before .before .remaining .ensures) ∙ c .before .before .before .before .before .if1 .taken))
+    (c .before .before .before .settled .ensures
+    ∙ stands-last (a .last) (a .s) w (sym (c .before .before .before .before .before .before .remaining .ensures) ∙ c .before .before .before .before .before .if1 .taken))
 
 returns-2 : tie.Need-returns-2
 unfolding changed

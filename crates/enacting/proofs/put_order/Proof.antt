@@ -12,23 +12,36 @@ use Rattle.enacting.proofs.put_order.Statement.{statement}
 use Rattle.enacting.proofs.put_order.Tie as tie
 
 put-connect-requires : tie.Need-put-connect-requires
-put-connect-requires c κs = (rw (c .address-in .ensures) (part-most (now (c .before .before .before .before .before .before .before .before .args .m)) (c .before .before .before .o .given .0 .0) 7), search needs)
+put-connect-requires c κs =
+    let a = c .before .before .before .before .before .before .before .before .args in
+    (rw (c .address-in .ensures) (part-most (now (a .m)) (c .before .before .before .o .given .0 .0) 7), search needs)
 
 returns : tie.Need-returns
 returns c =
     let a = c .before .before .before .before .before .before .before .before .before .before .before .args in
     let s = c .before .before .before .before .before .before .before .before .named-by in
+    let told = c .before .before .before .before .before .before .o .given in
     let called = c .before .before .before .address-in in
     let w = c .before .before .put-connect .ensures in
-    let told = c .before .before .before .before .before .before .o .given in
-    (omega (arith, w .1), λ own. same-order (order (s .result) (lineOrder.Connect (told .0 .0)) (now (called .result))) (order (namedBy (a .i) (a .c) (a .o)) (a .o) (behindOrder own (now (a .m)) (a .o))) (rw (s .ensures, told .1, called .ensures)) _ (now (a .room)) _ (w .0) (w .2))
+    let written = order (s .result) (lineOrder.Connect (told .0 .0)) (now (called .result)) in (
+      omega (arith, w .1),
+      λ own.
+          same-order written (order (namedBy (a .i) (a .c) (a .o)) (a .o) (behindOrder own (now (a .m)) (a .o)))
+          (rw (s .ensures, told .1, called .ensures)) _ (now (a .room)) _ (w .0) (w .2),
+    )
 
 returns-2 : tie.Need-returns-2
 returns-2 c =
     let a = c .before .before .before .before .before .before .before .before .args in
     let s = c .before .before .before .before .before .named-by in
+    let keys = c .before .before .before .before .match .keys2 in
     let w = c .before .before .put-order .ensures in
-    (w .1, λ own. same-order (order (s .result) (a .o) []) (order (namedBy (a .i) (a .c) (a .o)) (a .o) (behindOrder own (now (a .m)) (a .o))) (rw (s .ensures) (ap (order (namedBy (a .i) (a .c) (a .o)) (a .o)) (no-address own (now (a .m)) (a .o) (c .before .before .before .before .match .keys2)))) _ (now (a .room)) _ (w .0) (w .2))
+    let named = order (namedBy (a .i) (a .c) (a .o)) (a .o) in (
+      w .1,
+      λ own.
+          same-order (order (s .result) (a .o) []) (named (behindOrder own (now (a .m)) (a .o)))
+          (rw (s .ensures) (ap named (no-address own (now (a .m)) (a .o) keys))) _ (now (a .room)) _ (w .0) (w .2),
+    )
 
 pub put-order-spec : {M : Type 1} → statement M
 put-order-spec =

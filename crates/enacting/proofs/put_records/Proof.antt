@@ -30,12 +30,14 @@ returns c =
     let two = allBytes (flushIf (a .e .flush) (a .i)) in
     let three = allBytes (upsIn (a .i) (macAt t (a .i)) (now (a .m)) (a .e .up)) in
     rw all-in-order (
-      omega (arith, length-append (one ++ two) three, length-append one two, w .0, f .ensures .0, u .ensures .0),
-      omega (arith, o .ensures .0, f .ensures .1, u .ensures .1),
-      over-next (one ++ two) three (now (a .room)) (o .result + f .result)
-          (over-next one two (now (a .room)) (o .result) (w .1) (sym (w .0)) (f .ensures .2))
-          (omega (arith, length-append one two, w .0, f .ensures .0))
-          (u .ensures .2),
+      omega (arith, o .ensures .0, f .ensures .1, u .ensures .0),
+      (
+        omega (arith, length-append (one ++ two) three, length-append one two, w .0, f .ensures .0, u .ensures .1 .0),
+        over-next (one ++ two) three (now (a .room)) (o .result + f .result)
+            (over-next one two (now (a .room)) (o .result) (w .1) (sym (w .0)) (f .ensures .2))
+            (omega (arith, length-append one two, w .0, f .ensures .0))
+            (u .ensures .1 .1),
+      ),
     )
 
 pub put-records-spec : {M : Type 1} → statement M

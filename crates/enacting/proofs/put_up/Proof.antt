@@ -26,7 +26,10 @@ returns c =
     let a = c .before .before .before .before .before .before .before .before .before .before .before .args in
     let mac = macAt (tableOf (now (a .img))) (a .i) in
     let w = c .before .before .put-info-ack .ensures in
-    (w .0, same-up (a .i) (a .reply) (reply.InfoAck (c .before .before .before .before .before .before .reply .given .0 .0)) (infoTail (c .before .before .before .before .mac-at .result) (c .before .before .before .before .before .before .reply .given .0 .0)) mac (now (a .m)) (now (a .room)) _ (c .before .before .before .before .before .before .reply .given .1) (w .1) (ap (λ (l : List ℕ). infoTail l (c .before .before .before .before .before .before .reply .given .0 .0)) (c .before .before .before .before .mac-at .ensures)))
+    let told = c .before .before .before .before .before .before .reply .given in
+    let found = c .before .before .before .before .mac-at in
+    let tail : List ℕ → List ℕ = λ l. infoTail l (told .0 .0) in
+    (w .0, same-up (a .i) (a .reply) (reply.InfoAck (told .0 .0)) (tail (found .result)) mac (now (a .m)) (now (a .room)) _ (told .1) (w .1) (ap tail (found .ensures)))
 
 returns-2 : tie.Need-returns-2
 unfolding behindReply
@@ -34,7 +37,10 @@ returns-2 c =
     let a = c .before .before .before .before .before .before .before .before .before .before .before .args in
     let mac = macAt (tableOf (now (a .img))) (a .i) in
     let w = c .before .before .put-bind-ack .ensures in
-    (w .0, same-up (a .i) (a .reply) (reply.BindAck (c .before .before .before .before .before .before .reply2 .given .0 .0) (c .before .before .before .before .before .before .reply2 .given .0 .1 .0)) (addressOf (c .before .before .before .before .mac-at2 .result) (c .before .before .before .before .before .before .reply2 .given .0 .0)) mac (now (a .m)) (now (a .room)) _ (c .before .before .before .before .before .before .reply2 .given .1) (w .1) (ap (λ (l : List ℕ). addressOf l (c .before .before .before .before .before .before .reply2 .given .0 .0)) (c .before .before .before .before .mac-at2 .ensures)))
+    let told = c .before .before .before .before .before .before .reply2 .given in
+    let found = c .before .before .before .before .mac-at2 in
+    let tail : List ℕ → List ℕ = λ l. addressOf l (told .0 .0) in
+    (w .0, same-up (a .i) (a .reply) (reply.BindAck (told .0 .0) (told .0 .1 .0)) (tail (found .result)) mac (now (a .m)) (now (a .room)) _ (told .1) (w .1) (ap tail (found .ensures)))
 
 returns-3 : tie.Need-returns-3
 unfolding behindReply
@@ -42,7 +48,9 @@ returns-3 c =
     let a = c .before .before .before .before .before .before .before .before .before .before .args in
     let mac = macAt (tableOf (now (a .img))) (a .i) in
     let w = c .before .before .put-up .ensures in
-    (w .0, same-up (a .i) (a .reply) (a .reply) (now (c .before .before .before .part-at .result)) mac (now (a .m)) (now (a .room)) _ refl (w .1) (c .before .before .before .part-at .ensures ∙ rw (c .before .before .before .before .before .enum-told .given .1) (two-addresses (now (a .m)))))
+    let told = c .before .before .before .before .before .enum-told .given in
+    let called = c .before .before .before .part-at in
+    (w .0, same-up (a .i) (a .reply) (a .reply) (now (called .result)) mac (now (a .m)) (now (a .room)) _ refl (w .1) (called .ensures ∙ rw (told .1) (two-addresses (now (a .m)))))
 
 returns-4 : tie.Need-returns-4
 unfolding behindReply
@@ -50,14 +58,17 @@ returns-4 c =
     let a = c .before .before .before .before .before .before .before .before .before .before .args in
     let mac = macAt (tableOf (now (a .img))) (a .i) in
     let w = c .before .before .put-up2 .ensures in
-    (w .0, same-up (a .i) (a .reply) (a .reply) (now (c .before .before .before .part-at2 .result)) mac (now (a .m)) (now (a .room)) _ refl (w .1) (c .before .before .before .part-at2 .ensures ∙ rw (c .before .before .before .before .before .enum-told2 .given .1) refl))
+    let told = c .before .before .before .before .before .enum-told2 .given in
+    let responding = c .before .before .before .part-at2 in
+    (w .0, same-up (a .i) (a .reply) (a .reply) (now (responding .result)) mac (now (a .m)) (now (a .room)) _ refl (w .1) (responding .ensures ∙ rw (told .1) refl))
 
 returns-5 : tie.Need-returns-5
 returns-5 c =
     let a = c .before .before .before .before .before .before .before .before .before .args in
     let mac = macAt (tableOf (now (a .img))) (a .i) in
     let w = c .before .before .put-up3 .ensures in
-    (w .0, same-up (a .i) (a .reply) (a .reply) [] mac (now (a .m)) (now (a .room)) _ refl (w .1) (no-tail mac (now (a .m)) (a .reply) (c .before .before .before .before .before .match .keys5)))
+    let keys = c .before .before .before .before .before .match .keys5 in
+    (w .0, same-up (a .i) (a .reply) (a .reply) [] mac (now (a .m)) (now (a .room)) _ refl (w .1) (no-tail mac (now (a .m)) (a .reply) keys))
 
 pub put-up-spec : {M : Type 1} → statement M
 put-up-spec =

@@ -14,7 +14,7 @@ use Rattle.enacting.proofs.put_ups.Tie as tie
 
 returns : tie.Need-returns
 unfolding upsIn
-returns c = rw (c .enum-told .given .1) (refl, omega arith, refl)
+returns c = rw (c .enum-told .given .1) (omega arith, (refl, refl))
 
 returns-2 : tie.Need-returns-2
 unfolding upsIn
@@ -26,10 +26,13 @@ returns-2 c =
     let told = c .before .before .before .before .before .saying .given in
     let r = told .0 .0 in
     let u = c .before .before .put-up .ensures in
+    let most = tail-most mac (mac-length _ (a .pre .2 .shaped) _) m r in
     rw (told .1) (
-      one-long (up i r (behindReply mac m r)) _ (u .0 ∙ sym (up-length i r (behindReply mac m r) (tail-most mac (mac-length _ (a .pre .2 .shaped) _) m r))),
       omega (arith, u .0),
-      one-over (up i r (behindReply mac m r)) (now (a .args .room)) _ (u .1),
+      (
+        one-long (up i r (behindReply mac m r)) _ (u .0 ∙ sym (up-length i r (behindReply mac m r) most)),
+        one-over (up i r (behindReply mac m r)) (now (a .args .room)) _ (u .1),
+      ),
     )
 
 pub put-ups-spec : {M : Type 1} → statement M

@@ -28,8 +28,9 @@ returns c =
     let a = c .before .before .before .before .before .before .before .before .before .before in
     let t = tableOf (now (a .args .img)) in
     let n = c .before .before .before .before .before .before .before .wrapping-add-u32 .result in
+    let added : Table → Table = λ u. withCalls u (a .args .i) (a .args .s) (waiting u (a .args .i) ++ (a .args .n .0 ∷ [])) in
     c .before .before .add-call .ensures
-    ∙ change-after (withCounter t n) (shaped-counter t (a .pre .2 .shaped) n) (λ (u : Table). withCalls u (a .args .i) (a .args .s) (waiting u (a .args .i) ++ (a .args .n .0 ∷ []))) _ (c .before .before .before .before .before .before .store-counter .ensures)
+    ∙ change-after (withCounter t n) (shaped-counter t (a .pre .2 .shaped) n) added _ (c .before .before .before .before .before .before .store-counter .ensures)
     ∙ rw (c .before .before .before .before .before .before .before .wrapping-add-u32 .ensures)
 
 pub take-call-spec : {M : Type 1} → statement M
