@@ -64,7 +64,7 @@ told-order i (lineOrder.Disconnect n reason) called rest h = record { kind = 100
 told-order i lineOrder.Reset called rest h = record { kind = 114; others = _; form = refl; size = omega arith; some = refl }
 told-order i lineOrder.ResetAnswer called rest h = record { kind = 115; others = _; form = refl; size = omega arith; some = refl }
 
-up-size : (i : ℕ) (r : Reply) (tail : List ℕ) → length (fieldsOf r) * 4 + length tail ≤ 96 → length (bytesOf (up i r tail)) ≡ 99
+pub up-size : (i : ℕ) (r : Reply) (tail : List ℕ) → length (fieldsOf r) * 4 + length tail ≤ 96 → length (bytesOf (up i r tail)) ≡ 99
 unfolding contentOf
 up-size i r tail h =
     let c : length (contentOf r tail) ≡ length (fieldsOf r) * 4 + length tail = length-append (flat (fieldsOf r)) tail ∙ ap (λ (n : ℕ). n + length tail) (flat-length (fieldsOf r)) in

@@ -1,38 +1,41 @@
--- What a history says of a stream is what the table holds of it, call by call from a fresh table.
-use Prim.Native.Nat.{ℕ, _≤_, _<_}
+-- What a history says of a stream is what the table holds of it: of a fresh table nothing, and then, call by call, the lines show what
+-- the call changes (`Seen`).
+use Prim.Native.Nat.{ℕ, _<_}
 use mathlib.Core.Path.{_≡_, refl, sym, ap, subst, _∙_}
 use mathlib.Core.Bool.{true, false≢true}
 use mathlib.Core.List.{List, [], _∷_, map}
 use lib.Dec.{ltb}
-use native.Mathlib.Omega.{arith}
 use borrow.Author.Tests.{ltb-true}
 use Rattle.ledger.proofs.Tallies.{all-at}
-use Rattle.paper.specs.Base.{number, Slot, Table, fresh, slot, stream, waiting}
+use Rattle.paper.specs.Base.{isAmong, boundStates, Slot, Table, fresh, slot, stream, waiting}
+use Rattle.paper.specs.StateRows.{stateRows}
 use Rattle.paper.specs.Step.{step}
 use Rattle.book.specs.declared.Line.{Line}
-use Rattle.book.specs.Lines.{linesOf}
 use Rattle.book.specs.Book.{Opening, openOf, newest, posts, leftOpen, tallies, countIn, grantBy}
 use Rattle.book.proofs.Shades.{shades, fairs, rooteds, openingsIn, open-posts, left-posts, posts-append, tallies-append, grant-append, fairs-append, rooteds-append}
 use Rattle.book.proofs.Counts.{count-posts}
-use Rattle.promises.specs.Soundness.{Bytes, Sound}
-use Rattle.promises.specs.History.{lines, fates, grantedBy}
+use Rattle.keeping.specs.Soundness.{Bytes, Sound}
+use Rattle.promises.specs.History.{saidBy, lines, fates, grantedBy}
 use Rattle.promises.proofs.Runs.{Call, answeredBy, run, history}
 use Rattle.promises.proofs.Whole.{read-step}
-use Rattle.promises.proofs.Sights.{Seen}
-use Rattle.promises.proofs.Steps.{good, fresh-sound, fresh-at}
+use Rattle.keeping.proofs.Sights.{Seen}
+use Rattle.keeping.proofs.Kept.{good, keeps, fresh-sound, fresh-at}
+use Rattle.keeping.proofs.Rows.{state-rows-fit}
 
 pub are-bytes : (c : Call) → Bytes (c .bytes)
 are-bytes c j = ltb-true _ _ (all-at (λ (b : ℕ). ltb b 256) 0 refl (c .bytes) (c .areBytes) j)
 
 -- the lines of one call, from table t on
 abbrev pub linesFrom : Table → Call → List Line
-linesFrom t c = linesOf (c .bytes) (step t (c .bytes) (c .room) .opened) (answeredBy c (step t (c .bytes) (c .room)) .written)
+linesFrom t c = saidBy (answeredBy (c .bytes) (step t (c .bytes) (c .room)))
 
 seen : (t : Table) → Sound t → (c : Call) (s : ℕ) → Seen s t (linesFrom t c) (step t (c .bytes) (c .room) .table)
-seen t k c s = subst (λ (ys : List Line). Seen s t ys (step t (c .bytes) (c .room) .table)) (sym (read-step t k (c .bytes) (c .room))) (good t k (c .bytes) (are-bytes c) (c .room) .seen s)
+seen t k c s =
+    subst (λ (ys : List Line). Seen s t ys (step t (c .bytes) (c .room) .table)) (sym (read-step t k (c .bytes) (c .room)))
+    (good stateRows state-rows-fit t k (c .bytes) (are-bytes c) (c .room) .seen s)
 
 pub kept : (t : Table) → Sound t → (c : Call) → Sound (step t (c .bytes) (c .room) .table)
-kept t k c = good t k (c .bytes) (are-bytes c) (c .room) .kept
+kept t k c = keeps t k (c .bytes) (are-bytes c) (c .room)
 
 -- of stream s: a table, its fates b so far, its counts and its last grant
 pub record Agrees (s : ℕ) (t : Table) (b : List Opening) (ts : ℕ → List ℕ) (g : ℕ) : Type 0 where
@@ -40,7 +43,7 @@ pub record Agrees (s : ℕ) (t : Table) (b : List Opening) (ts : ℕ → List �
   pub now : openOf (newest b) ≡ waiting t s
   pub left : leftOpen b ≡ 0
   pub counts : (k : ℕ) → ts k ≡ map (countIn k) b
-  pub grants : 6 ≤ number (stream t s) → stream t s .granted ≡ g
+  pub grants : isAmong boundStates (stream t s) ≡ true → stream t s .granted ≡ g
 
 agrees-step : (s : ℕ) (t u : Table) (ys : List Line) (b : List Opening) (ts : ℕ → List ℕ) (g : ℕ) → Sound u → Seen s t ys u → Agrees s t b ts g
     → Agrees s u (posts s ys b) (λ k. tallies k s ys (ts k)) (grantBy s ys g)
@@ -73,7 +76,13 @@ agrees-run s (c ∷ cs) t b ts g a =
     }
 
 pub agrees : (s : ℕ) (cs : List Call) → Agrees s (run fresh cs) (fates s (history fresh cs)) (λ k. tallies k s (lines (history fresh cs)) []) (grantedBy s (history fresh cs))
-agrees s cs = agrees-run s cs fresh [] (λ k. []) 0 (record { sound = fresh-sound; now = ap (λ (x : Slot). x .waiting) (sym (fresh-at 16 s)); left = refl; counts = λ k. refl; grants = λ h. absurd (omega (arith, ap (λ (x : Slot). number (x .stream)) (fresh-at 16 s))) })
+agrees s cs = agrees-run s cs fresh [] (λ k. []) 0 (record {
+  sound = fresh-sound;
+  now = ap (λ (x : Slot). x .waiting) (sym (fresh-at 16 s));
+  left = refl;
+  counts = λ k. refl;
+  grants = λ h. absurd (false≢true (sym (ap (λ (x : Slot). isAmong boundStates (x .stream)) (fresh-at 16 s)) ∙ h));
+})
 
 -- ---- every line of a history is fair, and comes to an opening
 

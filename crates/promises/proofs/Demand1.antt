@@ -11,17 +11,17 @@ use Rattle.ledger.specs.Choice.{both, _⇒_∣_}
 use Rattle.ledger.proofs.Tallies.{chosen, both-of}
 use Rattle.paper.specs.Refusals.{notSound}
 use Rattle.paper.specs.Sound.{sound}
-use Rattle.paper.specs.Step.{step}
+use Rattle.paper.specs.Step.{stepBy, step}
 use Rattle.image.specs.Layout.{tableOf, tidy, soundImage}
 use Rattle.outcomes.specs.Leaving.{Left, left, refusing, refusalIn, leaving, callOf}
-use Rattle.promises.proofs.Images.{lent-sound}
+use Rattle.keeping.proofs.Images.{lent-sound}
 use borrow.Author.Tests.{ltb-false, not-true}
 use Rattle.promises.proofs.Refused.{refusal-small}
-use Rattle.promises.proofs.Room.{room-enough}
+use Rattle.promises.proofs.Whole.{room-enough}
 
 -- "16: a table that isn't sound", before all other tests.
 pub unsound-gives-sixteen : (img r room : List ℕ) → soundImage img ≡ false → callOf img r room ≡ left (refusing notSound) img room
-unfolding soundImage callOf leaving step _⇒_∣_
+unfolding soundImage callOf leaving stepBy _⇒_∣_
 unsound-gives-sixteen img r room = go (tidy img) refl (sound (tableOf img)) refl
   where
     go : (a : Bool) → tidy img ≡ a → (b : Bool) → sound (tableOf img) ≡ b → both a b ≡ false → callOf img r room ≡ left (refusing notSound) img room

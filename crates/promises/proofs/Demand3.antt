@@ -2,40 +2,40 @@
 -- harness, `heardIn x` what came back of its calls, `imageIn x` the image that it then holds and `tableIn x` the table in that.
 use Prim.Native.Nat.{ℕ, suc, _+_, _≤_, _<_}
 use mathlib.Core.Path.{_≡_, refl, sym, ap, _∙_}
-use mathlib.Core.Bool.{Bool, true, false, not, false≢true}
+use mathlib.Core.Bool.{Bool, true, false, not}
 use mathlib.Core.List.{List, [], map, _∷_, _++_}
 use lib.ListN.{length, getD}
 use native.Mathlib.Omega.{arith}
 use borrow.Author.Tests.{eqb-true, ltb-true, ne-eqb, not-true, lt-ltb}
-use Rattle.ledger.proofs.Tallies.{chosen, occ-length, empty, to-both}
-use Rattle.paper.specs.ErrorOrder.{judgeDenial, judgeDisconnect, isWaiting, judgeServed, judge}
-use Rattle.paper.specs.Rows.{performed}
-use Rattle.paper.specs.Step.{answered, step}
-use Rattle.paper.specs.declared.Verdict.{Verdict}
+use Rattle.ledger.proofs.Tallies.{occ-length, empty, to-both}
+use Rattle.paper.specs.StateRows.{stateRows}
+use Rattle.paper.specs.Step.{step}
+use Rattle.paper.specs.declared.Asked.the-variants.{For}
+use Rattle.paper.proofs.Walk.{verdictOn}
 use Rattle.book.specs.Book.{Opening, openCount, tallies, countIn, openOf, newest, posts, countOf, howMany}
-use Rattle.promises.proofs.ErrorAck.{row-tells, errorsIn}
-use Rattle.promises.proofs.Named.{row-nine, names-accept, names-denial}
+use Rattle.promises.proofs.Named.{names-accept, names-denial, open-denied}
 use Rattle.book.specs.declared.End.the-variants.{Accepted, Denied, Withdrawn, Dropped}
 use Rattle.book.proofs.Counts.{count-at, all-counted, met-counted, sums, none-left}
 use Rattle.ledger.specs.Tally.{occ, has, allOf}
-use Rattle.paper.specs.Base.{number, isIn, Slot, closed, fresh, slot, stream, waiting, ppaNumbers, Table}
+use Rattle.paper.specs.Base.{number, isIn, boundStates, Slot, closed, fresh, slot, stream, waiting, ppaNumbers, Table}
 use Rattle.paper.specs.Correlations.{occurrences}
 use Rattle.paper.specs.ErrorCodes.{badCorr}
-use Rattle.paper.specs.RecordsIn.{messageIn, inputOf}
-use Rattle.paper.specs.Refusals.{Outcome, notSound}
+use Rattle.paper.specs.RecordsIn.{messageIn}
+use Rattle.paper.specs.Refusals.{notSound}
 use Rattle.paper.specs.Sound.{sound}
 use Rattle.paper.specs.declared.ConnectResponse.{ConnectResponse}
 use Rattle.paper.specs.declared.DisconnectRequest.{DisconnectRequest}
 use Rattle.paper.specs.declared.Request.{Request}
 use Rattle.paper.specs.declared.Request.the-variants as request
 use Rattle.ledger.proofs.Sums.{sum-at, sum-two}
-use Rattle.promises.proofs.OutState.{gets, answers, answer-tells}
+use Rattle.promises.proofs.Refused.{sound-not-sixteen}
+use Rattle.promises.proofs.Verdicts.{errorsBy, complete-tells}
 use Rattle.promises.specs.History.{lines, fates, openBy, grantedBy, counted, indicated, accepted, denied, withdrawn, dropped, leftOpenIn, Answered}
 use Rattle.promises.proofs.Runs.{Call, run, history}
-use Rattle.promises.proofs.Agreement.{agrees, are-bytes}
-use Rattle.promises.proofs.Changes.{quiet}
-use Rattle.promises.proofs.Steps.{good, fresh-sound, Good}
-use Rattle.promises.proofs.Tested.{sound-test}
+use Rattle.promises.proofs.Agreement.{agrees, kept}
+use Rattle.keeping.proofs.Changes.{quiet}
+use Rattle.keeping.proofs.Kept.{fresh-sound}
+use Rattle.keeping.proofs.Tested.{sound-test}
 use lib.Dec.{eqb}
 use Rattle.image.specs.Layout.{soundImage}
 use Rattle.book.specs.declared.End.{End}
@@ -43,9 +43,9 @@ use Rattle.book.specs.declared.Line.{Line}
 use Rattle.book.specs.declared.Line.the-variants.{Went}
 use Rattle.book.proofs.Shades.{fairs, open-posts, went-open}
 use Rattle.promises.specs.Harness.{Lending, Harness, imageIn, tableIn, heardIn, CompleteIn, errorsHeard}
-use Rattle.promises.specs.Soundness.{Sound}
+use Rattle.keeping.specs.Soundness.{Sound}
 use Rattle.promises.proofs.Harness.{fair-heard, callsOf, image-is, history-is, agreed, errors-heard}
-use Rattle.promises.proofs.Images.{image-sound}
+use Rattle.keeping.proofs.Images.{image-sound}
 
 -- ---- no call gives 16
 
@@ -65,9 +65,8 @@ never-sixteen x = ap (allOf (λ (a : Answered). not (eqb (a .refusal) notSound))
     none : (t : Table) → Sound t → (cs : List Call) → allOf (λ (a : Answered). not (eqb (a .refusal) notSound)) (history t cs) ≡ true
     none t k [] = refl
     none t k (c ∷ cs) =
-        let g : Good t (inputOf (c .bytes)) (step t (c .bytes) (c .room)) = good t k (c .bytes) (are-bytes c) (c .room) in
-        to-both _ _ (ap not (ne-eqb (step t (c .bytes) (c .room) .refusal) 16 (λ e. omega (arith, ltb-true (step t (c .bytes) (c .room) .refusal) 16 (g .told)))))
-        (none (step t (c .bytes) (c .room) .table) (g .kept) cs)
+        to-both _ _ (ap not (ne-eqb (step t (c .bytes) (c .room) .refusal) 16 (λ e. omega (arith, e, sound-not-sixteen t (c .bytes) (c .room) (sound-test t k)))))
+        (none (step t (c .bytes) (c .room) .table) (kept t k c) cs)
 
 -- ---- exactly one fate
 
@@ -126,11 +125,10 @@ open-count x s = go (fates s (heardIn x))
 pub none-outside-nine : (x : Harness) (s : ℕ) → isIn 9 (stream (tableIn x) s) ≡ false → openBy s (heardIn x) ≡ []
 none-outside-nine x s e = agreed x s .now ∙ empty (waiting (tableIn x) s) (quiet (ppaNumbers (tableIn x)) (slot (tableIn x) s) (agreed x s .sound .each s) e)
 
--- BADCORR is told where the order of errors says so.
-told : (x : Harness) (c : Lending) (s : ℕ) (q : Request) → CompleteIn x c s q
-    → has badCorr (errorsHeard x c) ≡ gets badCorr (judge (tableIn x) s q)
-told x c s q m = ap (has badCorr) (errors-heard x c) ∙ ap (λ (o : Outcome). has badCorr (errorsIn (o .records))) (answers (tableIn x) (stays-sound x) (c .bytes) (length (c .room)) s q m)
-    ∙ answer-tells badCorr (tableIn x) s (messageIn (c .bytes) (m .size)) (judge (tableIn x) s q)
+-- The errors told are those of the order of errors.
+told : (x : Harness) (c : Lending) (s : ℕ) (q : Request) → (m : CompleteIn x c s q)
+    → errorsHeard x c ≡ errorsBy (verdictOn stateRows (tableIn x) s (messageIn (c .bytes) (m .size)) (For q))
+told x c s q m = errors-heard x c ∙ complete-tells stateRows (tableIn x) (stays-sound x) (c .bytes) (length (c .room)) s q m
 
 -- "The open ones are exactly those that an accept or a denial may name": while some are open, any other number gets BADCORR,
 in-nine-by : (x : Harness) (s : ℕ) → 0 < length (openBy s (heardIn x)) → isIn 9 (stream (tableIn x) s) ≡ true
@@ -140,13 +138,17 @@ pub accept-may-name : (x : Harness) (c : Lending) (s : ℕ) (a : ConnectResponse
     → CompleteIn x c s (request.ConnectRes a) → 0 < length (openBy s (heardIn x))
     → not (has badCorr (errorsHeard x c)) ≡ has (a .correlation .0) (openBy s (heardIn x))
 accept-may-name x c s a m h =
-    ap not (told x c s (request.ConnectRes a) m) ∙ names-accept (tableIn x) s (agreed x s .sound) (in-nine-by x s h) a .is ∙ ap (has (a .correlation .0)) (sym (agreed x s .now))
+    ap (λ (l : List ℕ). not (has badCorr l)) (told x c s (request.ConnectRes a) m)
+    ∙ names-accept (tableIn x) s (agreed x s .sound) (in-nine-by x s h) (messageIn (c .bytes) (m .size)) a
+    ∙ ap (has (a .correlation .0)) (sym (agreed x s .now))
 
 pub denial-may-name : (x : Harness) (c : Lending) (s : ℕ) (d : DisconnectRequest)
     → CompleteIn x c s (request.Disconnect d) → 0 < length (openBy s (heardIn x))
     → not (has badCorr (errorsHeard x c)) ≡ has (d .correlation .0) (openBy s (heardIn x))
 denial-may-name x c s d m h =
-    ap not (told x c s (request.Disconnect d) m) ∙ names-denial (tableIn x) s (agreed x s .sound) (in-nine-by x s h) d .is ∙ ap (has (d .correlation .0)) (sym (agreed x s .now))
+    ap (λ (l : List ℕ). not (has badCorr l)) (told x c s (request.Disconnect d) m)
+    ∙ names-denial (tableIn x) s (agreed x s .sound) (in-nine-by x s h) (messageIn (c .bytes) (m .size)) d
+    ∙ ap (has (d .correlation .0)) (sym (agreed x s .now))
 
 -- an accept of an open one never does,
 some-open : (n : ℕ) (l : List ℕ) → has n l ≡ true → 0 < length l
@@ -161,23 +163,10 @@ open-may-be-accepted x c s a m h = not-true _ (accept-may-name x c s a m (some-o
 pub open-is-denied : (x : Harness) (c : Lending) (s : ℕ) (d : DisconnectRequest)
     → CompleteIn x c s (request.Disconnect d) → has (d .correlation .0) (openBy s (heardIn x)) ≡ true
     → errorsHeard x c ≡ []
-unfolding judge judgeServed judgeDisconnect judgeDenial isWaiting answered performed
 open-is-denied x c s d m h =
-    errors-heard x c ∙ ap (λ (o : Outcome). errorsIn (o .records)) (answers (tableIn x) (stays-sound x) (c .bytes) (length (c .room)) s (request.Disconnect d) m) ∙ served
-  where
-    P : Verdict → Type 0
-    P v = errorsIn (answered (tableIn x) s (messageIn (c .bytes) (m .size)) v .records) ≡ []
-
-    nine : isIn 9 (stream (tableIn x) s) ≡ true
-    nine = in-nine-by x s (some-open (d .correlation .0) (openBy s (heardIn x)) h)
-
-    open-here : has (d .correlation .0) (waiting (tableIn x) s) ≡ true
-    open-here = ap (has (d .correlation .0)) (sym (agreed x s .now)) ∙ h
-
-    served : P (judge (tableIn x) s (request.Disconnect d))
-    served = chosen P _ _ _ (λ f. absurd (false≢true (sym (not-true _ f) ∙ row-nine (tableIn x) s (agreed x s .sound) nine (request.Disconnect d) refl)))
-        (λ f. chosen P _ _ _ (λ g. chosen P _ _ _ (λ w. absurd (false≢true (sym (not-true _ w) ∙ open-here))) (λ w. row-tells (tableIn x) s (messageIn (c .bytes) (m .size)) _))
-        (λ g. absurd (false≢true (sym g ∙ nine))))
+    let n : isIn 9 (stream (tableIn x) s) ≡ true = in-nine-by x s (some-open (d .correlation .0) (openBy s (heardIn x)) h) in
+    told x c s (request.Disconnect d) m
+    ∙ ap errorsBy (open-denied (tableIn x) s (agreed x s .sound) n (messageIn (c .bytes) (m .size)) d (ap (has (d .correlation .0)) (sym (agreed x s .now)) ∙ h))
 
 -- And no other one is ever named: where a record ends an indication, an `a`, a `d` with a number or a DISCONNECT_IND with one, it
 -- was open on that stream by the records before it.
@@ -206,5 +195,5 @@ pub within-the-grant : (x : Harness) (s : ℕ) → length (openBy s (heardIn x))
 within-the-grant x s = rw (agreed x s .now) (few (isIn 9 (stream (tableIn x) s)) refl)
   where
     few : (b : Bool) → isIn 9 (stream (tableIn x) s) ≡ b → length (waiting (tableIn x) s) ≤ grantedBy s (heardIn x)
-    few true e = omega (arith, agreed x s .sound .each s .few, agreed x s .grants (omega (arith, eqb-true (number (stream (tableIn x) s)) 9 e)))
+    few true e = omega (arith, agreed x s .sound .each s .few, agreed x s .grants (ap (λ (n : ℕ). has n boundStates) (eqb-true (number (stream (tableIn x) s)) 9 e)))
     few false e = omega (arith, quiet (ppaNumbers (tableIn x)) (slot (tableIn x) s) (agreed x s .sound .each s) e)

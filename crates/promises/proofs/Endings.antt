@@ -2,36 +2,36 @@
 -- 'dropped' of each open one. Each follows from the records that its row writes.
 use Prim.Native.Nat.{ℕ, _+_, _*_, _<_}
 use mathlib.Core.Path.{_≡_, refl, sym, ap, subst, _∙_}
-use mathlib.Core.Bool.{Bool, true, false, false≢true, not}
+use mathlib.Core.Bool.{Bool, true, false, not}
 use mathlib.Core.List.{List, [], _∷_, map, _++_}
 use lib.ListN.{length, getD, set}
 use lib.Dec.{eqb}
 use native.Mathlib.Omega.{arith}
-use borrow.Author.Tests.{eq-eqb, ne-eqb, lt-ltb, not-false}
+use borrow.Author.Tests.{eq-eqb, ne-eqb, lt-ltb}
+use Rattle.ledger.specs.Choice.{pick}
 use Rattle.ledger.specs.Tally.{oneIf, occ, allOf}
 use Rattle.ledger.proofs.Tallies.{chosen, empty}
-use Rattle.paper.specs.Base.{Slot, closed, Table, slot, stream, waiting, ppaNumbers}
-use Rattle.paper.specs.Correlations.{occurrences, nextNumber}
-use Rattle.paper.specs.ErrorOrder.{judgeOther, judgeItself, judgeCarrier, judgeAccept, judgeDenial, judgeDisconnect, isWaiting, judgeServed, judge}
-use Rattle.paper.specs.Events.{callWithdrawn, rings, heardBy, callArrives}
-use Rattle.paper.specs.Openings.{goodbye, goodbyes, closes}
+use Rattle.paper.specs.Base.{Table, slot, waiting, ppaNumbers}
+use Rattle.paper.specs.Correlations.{nextNumber}
+use Rattle.paper.specs.Effects.{ordersIn, upsIn, told, effectOf, eventEffect}
+use Rattle.paper.specs.Openings.{goodbye, goodbyes}
 use Rattle.paper.specs.RecordsIn.{inputOf, messageIn}
 use Rattle.paper.specs.RecordsOut.{Record, inOrder}
 use Rattle.paper.specs.Refusals.{Outcome, refused}
-use Rattle.paper.specs.Rows.{ordersOf, flushes, repliesTo, performed}
-use Rattle.paper.specs.Step.{answered, ofOpen, serve, step}
-use Rattle.paper.specs.declared.Carrier.{Carrier}
-use Rattle.paper.specs.declared.Carrier.the-variants.{Itself, Other, None}
+use Rattle.paper.specs.Saps.{listener}
+use Rattle.paper.specs.StateRows.{stateRows}
+use Rattle.paper.specs.declared.Asked.the-variants.{For}
 use Rattle.paper.specs.declared.Correlation.{Correlation}
 use Rattle.paper.specs.declared.ConnectResponse.{ConnectResponse}
 use Rattle.paper.specs.declared.DisconnectRequest.{DisconnectRequest}
 use Rattle.paper.specs.declared.Input.{Input}
 use Rattle.paper.specs.declared.Input.the-variants as input
+use Rattle.paper.specs.declared.PpaNumber.{PpaNumber}
 use Rattle.paper.specs.declared.Request.{Request}
 use Rattle.paper.specs.declared.Request.the-variants as request
-use Rattle.paper.specs.declared.Rule.{Rule}
-use Rattle.paper.specs.declared.Verdict.{Verdict}
-use Rattle.paper.specs.declared.Verdict.the-variants.{Fails}
+use Rattle.paper.proofs.Fair.{acceptsHere, acceptsOn, denies, disconnects}
+use Rattle.paper.proofs.Walk.{Answered, failing, serving, arriving, Way, refusing, closing, bringing, step-walk}
+use Rattle.paper.proofs.Walk as walk
 use Rattle.book.specs.declared.End.{End}
 use Rattle.book.specs.declared.End.the-variants.{Accepted, Denied, Withdrawn, Dropped}
 use Rattle.book.specs.declared.Line.{Line}
@@ -39,135 +39,101 @@ use Rattle.book.specs.declared.Line.the-variants.{Came, Went, Given}
 use Rattle.book.specs.Lines.{telling}
 use Rattle.book.specs.Book.{countOf, tallies, stillOpen, met, Opening, noIndication, mark, newest, onNewest, posts, noted}
 use Rattle.book.proofs.Counts.{ends-counted, ring-counted}
+use Rattle.book.proofs.Marks.{marked}
 use Rattle.book.proofs.Said.{lineOf, said}
-use Rattle.ledger.proofs.Sums.{sum-at}
-use Rattle.promises.proofs.ErrorAck.{errorsIn}
+use Rattle.book.proofs.Telling.{posts-telling, tally-telling, concerns, others-post, others-tally, none-ends, none-comes}
 use Rattle.promises.specs.History.{saidBy, lines, fates, openBy, counted, accepted, denied, withdrawn, dropped}
 use Rattle.promises.specs.Harness.{Lending, Harness, tableIn, heardIn, nextIn, andThen, CompleteIn, errorsHeard}
-use Rattle.promises.specs.Soundness.{Sound}
-use Rattle.promises.proofs.Changes.{quiet}
-use Rattle.promises.proofs.Harness.{outcome, agreed, errors-heard, lines-heard, refusal-heard, fates-more, counts-more}
-use Rattle.promises.proofs.OutState.{answers}
-use Rattle.promises.proofs.Steps.{open-nonzero}
-use Rattle.book.proofs.Telling.{posts-telling, tally-telling, concerns, others-post, others-tally, none-ends, none-comes}
-use Rattle.ledger.specs.Choice.{pick}
-use Rattle.paper.specs.Saps.{listener}
-use Rattle.paper.specs.declared.PpaNumber.{PpaNumber}
-use Rattle.book.proofs.Marks.{marked}
+use Rattle.keeping.specs.Soundness.{Sound}
+use Rattle.keeping.proofs.Changes.{quiet}
 use Rattle.promises.proofs.Demand3.{once-on-a-stream}
+use Rattle.promises.proofs.Harness.{outcome, agreed, errors-heard, lines-heard, refusal-heard, fates-more, counts-more}
 use Rattle.promises.proofs.Refused.{refusal-is-all}
-use Rattle.promises.proofs.Tested.{sound-test}
-use Rattle.paper.specs.Sight.{carrierOf}
+use Rattle.keeping.proofs.Closes.{open-nonzero}
+use Rattle.keeping.proofs.Tested.{sound-test}
+use Rattle.promises.proofs.Verdicts.{complete-answered}
+use Rattle.promises.proofs.Written.{errorsIn}
 
--- ---- of a message: by the verdict on it
+-- ---- of a message that is answered without an error
 
--- where no error is told, these lines are
-pub record Tells (t : Table) (i l : ℕ) (ys : List Line) (v : Verdict) : Type 0 where
-  pub tells : (m : List ℕ) → errorsIn (answered t i m v .records) ≡ []
-      → telling (said (input.Message i l) (answered t i m v .opened) (answered t i m v .records)) ≡ ys
+-- the lines that a message of l bytes to stream i says, where it tells no error
+abbrev pub Tells : ℕ → ℕ → List Line → Outcome → Type 0
+Tells i l ys o = errorsIn (o .records) ≡ [] → telling (said (input.Message i l) (o .opened) (o .records)) ≡ ys
 
-module _ (t : Table) (i l : ℕ) where
-  pub fails : (ys : List Line) (r : Rule) → Tells t i l ys (Fails r)
-  unfolding answered
-  fails ys r = record { tells = λ m e. absurd (omega (arith, ap length e)) }
+module _ (t : Table) (i l : ℕ) (m : List ℕ) where
+  tells-accept : {a : ConnectResponse} {o : Outcome} → Answered stateRows t i m (For (request.ConnectRes a)) o → Tells i l (Went i (a .correlation .0) Accepted ∷ []) o
+  unfolding told inOrder ordersIn upsIn effectOf
+  tells-accept (failing v) e = absurd (omega (arith, ap length e))
+  tells-accept (serving v h (acceptsHere w k)) e = refl
+  tells-accept (serving v h (acceptsOn w k)) e = refl
 
-  module _ (n : Correlation) where
-    abbrev Accepts : Verdict → Type 0
-    Accepts = Tells t i l (Went i (n .0) Accepted ∷ [])
+  tells-denial : {d : DisconnectRequest} {o : Outcome} → 0 < d .correlation .0 → Answered stateRows t i m (For (request.Disconnect d)) o → Tells i l (Went i (d .correlation .0) Denied ∷ []) o
+  unfolding told inOrder ordersIn upsIn effectOf
+  tells-denial some (failing v) e = absurd (omega (arith, ap length e))
+  tells-denial {d} some (serving v h (denies n w)) e = rw (ne-eqb (d .correlation .0) 0 (λ z. omega (arith, z)))
+  tells-denial some (serving v h (disconnects n z)) e = absurd (omega (arith, some, z))
 
-    tells-carrier : (c : Carrier) → Accepts (judgeCarrier (stream t i) n (length (waiting t i)) c)
-    unfolding judgeCarrier judgeItself judgeOther answered performed inOrder ordersOf flushes repliesTo
-    tells-carrier Itself = chosen Accepts _ _ _ (λ e. fails _ _) (λ e. record { tells = λ m z. refl })
-    tells-carrier None = fails _ _
-    tells-carrier (Other c x) = chosen Accepts _ _ _ (λ e. fails _ _) (λ e. chosen Accepts _ _ _ (λ e. fails _ _) (λ e. chosen Accepts _ _ _ (λ e. fails _ _) (λ e. record { tells = λ m z. refl })))
-
-  tells-accept : (a : ConnectResponse) → Tells t i l (Went i (a .correlation .0) Accepted ∷ []) (judge t i (request.ConnectRes a))
-  unfolding judge judgeServed judgeAccept
-  tells-accept a = chosen (Accepts (a .correlation)) _ _ _ (λ e. fails _ _) (λ e. chosen (Accepts (a .correlation)) _ _ _ (λ e. fails _ _)
-      (λ e. chosen (Accepts (a .correlation)) _ _ _ (λ e. fails _ _) (λ e. tells-carrier (a .correlation) (carrierOf t i (a .token)))))
-
-  tells-denial : (d : DisconnectRequest) → 0 < d .correlation .0 → Tells t i l (Went i (d .correlation .0) Denied ∷ []) (judge t i (request.Disconnect d))
-  unfolding judge judgeServed judgeDisconnect judgeDenial answered performed inOrder ordersOf flushes repliesTo
-  tells-denial d h =
-      let some : eqb (d .correlation .0) 0 ≡ false = ne-eqb (d .correlation .0) 0 (λ e. omega (arith, e)) in
-      chosen Denies _ _ _ (λ e. fails _ _)
-      (λ e. chosen Denies _ _ _ (λ e. chosen Denies _ _ _ (λ e. fails _ _) (λ e. record { tells = λ m z. rw some }))
-      (λ e. chosen Denies _ _ _ (λ e. fails _ _) (λ e. absurd (false≢true (sym some ∙ not-false _ e)))))
-    where
-      Denies : Verdict → Type 0
-      Denies = Tells t i l (Went i (d .correlation .0) Denied ∷ [])
+pub heard-answered : (x : Harness) (c : Lending) (s : ℕ) (q : Request) (m : CompleteIn x c s q)
+    → Answered stateRows (tableIn x) s (messageIn (c .bytes) (m .size)) (For q) (outcome (tableIn x) c)
+heard-answered x c = complete-answered stateRows (tableIn x) (sound-test (tableIn x) (agreed x 0 .sound)) (c .bytes) (length (c .room))
 
 -- what a complete message says where no error is told
 pub message-says : (x : Harness) (c : Lending) (s : ℕ) (q : Request) (ys : List Line) → (m : CompleteIn x c s q)
-    → Tells (tableIn x) s (m .size) ys (judge (tableIn x) s q) → errorsHeard x c ≡ [] → telling (saidBy (nextIn x c)) ≡ ys
+    → Tells s (m .size) ys (outcome (tableIn x) c) → errorsHeard x c ≡ [] → telling (saidBy (nextIn x c)) ≡ ys
 message-says x c s q ys m h e =
-    let o : outcome (tableIn x) c ≡ answered (tableIn x) s (messageIn (c .bytes) (m .size)) (judge (tableIn x) s q)
-    = answers (tableIn x) (sound-test (tableIn x) (agreed x s .sound)) (c .bytes) (length (c .room)) s q m in
-    ap telling (lines-heard x c ∙ ap (λ (p : Input). said p (outcome (tableIn x) c .opened) (outcome (tableIn x) c .records)) (m .read) ∙ ap (λ (o : Outcome). said (input.Message s (m .size)) (o .opened) (o .records)) o)
-    ∙ h .tells (messageIn (c .bytes) (m .size)) (ap (λ (o : Outcome). errorsIn (o .records)) (sym o) ∙ sym (errors-heard x c) ∙ e)
+    ap telling (lines-heard x c ∙ ap (λ (p : Input). said p (outcome (tableIn x) c .opened) (outcome (tableIn x) c .records)) (m .read))
+    ∙ h (sym (errors-heard x c) ∙ e)
 
--- ---- of an event and of a close: by what the call comes to
+-- ---- of an event and of a close that are served
 
-record Says (q : Input) (ys : List Line) (o : Outcome) : Type 0 where
-  says : o .refusal ≡ 0 → telling (said q (o .opened) (o .records)) ≡ ys
+abbrev Says : Input → List Line → Outcome → Type 0
+Says q ys o = o .refusal ≡ 0 → telling (said q (o .opened) (o .records)) ≡ ys
 
-refuses : (q : Input) (ys : List Line) (t : Table) (n : ℕ) → 0 < n → Says q ys (refused t n)
-refuses q ys t n h = record { says = λ e. absurd (omega arith) }
+module _ (t : Table) (k : Sound t) (r : List ℕ) where
+  says-arrives : {p : PpaNumber} {sap : ℕ} {o : Outcome} → Way stateRows t r (input.CallArrives p sap) o
+      → Says (input.CallArrives p sap) (Came (listener t p sap) (nextNumber t) ∷ []) o
+  unfolding told inOrder ordersIn upsIn eventEffect
+  says-arrives (refusing some few) z = absurd (omega (arith, some, z))
+  says-arrives (bringing (arriving n h) f d) z = refl
 
-says-step : (t : Table) (r : List ℕ) (room : ℕ) (q : Input) (ys : List Line) → inputOf r ≡ q → Says q ys (serve t r q) → Says q ys (step t r room)
-unfolding step
-says-step t r room q ys e h = chosen (Says q ys) _ _ _ (λ f. refuses q ys t _ (omega arith)) (λ f. chosen (Says q ys) _ _ _ (λ f. refuses q ys t _ (omega arith)) (λ f. chosen (Says q ys) _ _ _ (λ f. refuses q ys t _ (omega arith))
-    (λ f. subst (λ (p : Input). Says q ys (serve t r p)) (sym e) h)))
+  says-withdrawn : {i : ℕ} {n : Correlation} {reason : ℕ} {o : Outcome} → Way stateRows t r (input.CallWithdrawn i n reason) o
+      → Says (input.CallWithdrawn i n reason) (Went i (n .0) Withdrawn ∷ []) o
+  unfolding told inOrder ordersIn upsIn eventEffect
+  says-withdrawn (refusing some few) z = absurd (omega (arith, some, z))
+  says-withdrawn {i} {n} (bringing (walk.withdrawn u) f d) z = rw (open-nonzero t k i (n .0) d)
 
-module _ (t : Table) (k : Sound t) (i : ℕ) where
-  says-open : (q : Input) (ys : List Line) (o : Outcome) → Says q ys o → Says q ys (ofOpen t i o)
-  unfolding ofOpen
-  says-open q ys o h = chosen (Says q ys) _ _ _ (λ e. refuses q ys t _ (omega arith)) (λ e. h)
+  module _ (i : ℕ) where
+    drops : (w : List ℕ) → ((n : ℕ) → 0 < occ n w → eqb n 0 ≡ false) → telling (map (lineOf (input.Close i)) (map (goodbye i) w)) ≡ map (λ (n : ℕ). Went i n Dropped) w
+    drops [] h = refl
+    drops (n ∷ w) h = rw (h n (rw (eq-eqb n n refl) (omega arith))) (ap (λ (ys : List Line). Went i n Dropped ∷ ys) (drops w (λ m o. h m (omega (arith, o)))))
 
-  says-withdrawn : (n : Correlation) (reason : ℕ) → Says (input.CallWithdrawn i n reason) (Went i (n .0) Withdrawn ∷ []) (callWithdrawn t i n reason)
-  unfolding callWithdrawn isWaiting
-  says-withdrawn n reason = chosen (Says (input.CallWithdrawn i n reason) (Went i (n .0) Withdrawn ∷ [])) _ _ _ (λ e. record { says = λ z. rw (open-nonzero t k i (n .0) e) }) (λ e. refuses _ _ t _ (omega arith))
+    says-closes : {o : Outcome} → Way stateRows t r (input.Close i) o → Says (input.Close i) (map (λ (n : ℕ). Went i n Dropped) (waiting t i)) o
+    unfolding goodbyes
+    says-closes (refusing some few) z = absurd (omega (arith, some, z))
+    says-closes (closing u) z =
+        chosen Drops _ _ _ (λ e. drops (waiting t i) (λ n o. open-nonzero t k i n (lt-ltb 0 (occ n (waiting t i)) o)))
+        (λ e. rw (empty (waiting t i) (quiet (ppaNumbers t) (slot t i) (k .each i) e))
+        (chosen (λ (rs : List Record). telling (map (lineOf (input.Close i)) rs) ≡ []) _ _ _ (λ f. refl) (λ f. refl)))
+      where
+        Drops : List Record → Type 0
+        Drops rs = telling (map (lineOf (input.Close i)) rs) ≡ map (λ (n : ℕ). Went i n Dropped) (waiting t i)
 
-  no-zero : occ 0 (waiting t i) ≡ 0
-  unfolding occurrences
-  no-zero = omega (arith, sum-at (λ (x : Slot). occ 0 (x .waiting)) closed refl (t .slots) i, k .once 0)
+heard-way : (x : Harness) (c : Lending) (q : Input) → inputOf (c .bytes) ≡ q → Way stateRows (tableIn x) (c .bytes) q (outcome (tableIn x) c)
+heard-way x c q e =
+    subst (λ (p : Input). Way stateRows (tableIn x) (c .bytes) p (outcome (tableIn x) c)) e
+    (step-walk stateRows (tableIn x) (c .bytes) (length (c .room)) (sound-test (tableIn x) (agreed x 0 .sound)))
 
-  drops : (w : List ℕ) → occ 0 w ≡ 0 → telling (map (lineOf (input.Close i)) (map (goodbye i) w)) ≡ map (λ (n : ℕ). Went i n Dropped) w
-  drops [] z = refl
-  drops (n ∷ w) z = rw (ne-eqb n 0 (some (eqb 0 n) refl z)) (ap (λ (ys : List Line). Went i n Dropped ∷ ys) (drops w (omega arith)))
-    where
-      some : (b : Bool) → eqb 0 n ≡ b → oneIf b + occ 0 w ≡ 0 → n ≡ 0 → ⊥
-      some true e z f = omega (arith, z)
-      some false e z f = false≢true (sym e ∙ ap (eqb 0) f)
-
-  says-closes : Says (input.Close i) (map (λ (n : ℕ). Went i n Dropped) (waiting t i)) (closes t i)
-  unfolding closes goodbyes
-  says-closes = record { says = λ z. chosen Drops _ _ _ (λ e. drops (waiting t i) no-zero) (λ e. rw (empty (waiting t i) (quiet (ppaNumbers t) (slot t i) (k .each i) e)) (chosen (λ (rs : List Record). telling (map (lineOf (input.Close i)) rs) ≡ []) _ _ _ (λ f. refl) (λ f. refl))) }
-    where
-      Drops : List Record → Type 0
-      Drops rs = telling (map (lineOf (input.Close i)) rs) ≡ map (λ (n : ℕ). Went i n Dropped) (waiting t i)
-
-input-says : (x : Harness) (c : Lending) (q : Input) (ys : List Line) → inputOf (c .bytes) ≡ q → Says q ys (serve (tableIn x) (c .bytes) q)
+input-says : (x : Harness) (c : Lending) (q : Input) (ys : List Line) → inputOf (c .bytes) ≡ q → Says q ys (outcome (tableIn x) c)
     → nextIn x c .refusal ≡ 0 → telling (saidBy (nextIn x c)) ≡ ys
 input-says x c q ys e h z =
-    ap telling (lines-heard x c ∙ ap (λ (p : Input). said p (outcome (tableIn x) c .opened) (outcome (tableIn x) c .records)) e)
-    ∙ says-step (tableIn x) (c .bytes) (length (c .room)) q ys e h .says (sym (refusal-heard x c) ∙ z)
+    ap telling (lines-heard x c ∙ ap (λ (p : Input). said p (outcome (tableIn x) c .opened) (outcome (tableIn x) c .records)) e) ∙ h (sym (refusal-heard x c) ∙ z)
 
 -- ---- the laws: what is heard of one call more
-
-says-arrives : (t : Table) (p : PpaNumber) (sap : ℕ) (called calling : List ℕ)
-    → Says (input.CallArrives p sap) (Came (listener t p sap) (nextNumber t) ∷ []) (callArrives t p sap called calling)
-unfolding callArrives heardBy rings
-says-arrives t p sap called calling = chosen P _ _ _ (λ e. refuses _ _ t _ (omega arith)) (λ e. chosen P _ _ _ (λ e. refuses _ _ t _ (omega arith)) (λ e. chosen P _ _ _ (λ e. refuses _ _ t _ (omega arith)) (λ e. chosen P _ _ _ (λ e. refuses _ _ t _ (omega arith))
-    (λ e. record { says = λ z. refl }))))
-  where
-    P : Outcome → Type 0
-    P = Says (input.CallArrives p sap) (Came (listener t p sap) (nextNumber t) ∷ [])
 
 -- A served I says that one indication came, to the stream that listens and with the next number, and nothing else.
 pub arrival-says : (x : Harness) (c : Lending) (p : PpaNumber) (sap : ℕ) → inputOf (c .bytes) ≡ input.CallArrives p sap
     → nextIn x c .refusal ≡ 0 → telling (saidBy (nextIn x c)) ≡ Came (listener (tableIn x) p sap) (nextNumber (tableIn x)) ∷ []
-arrival-says x c p sap e = input-says x c _ _ e (says-arrives (tableIn x) p sap _ _)
+arrival-says x c p sap e = input-says x c _ _ e (says-arrives (tableIn x) (agreed x 0 .sound) (c .bytes) (heard-way x c _ e))
 
 -- A refused call says nothing.
 pub refused-says-nothing : (x : Harness) (c : Lending) → 0 < nextIn x c .refusal → saidBy (nextIn x c) ≡ []
@@ -179,23 +145,23 @@ refused-says-nothing x c h =
 -- A served accept of number n says 'accepted' of n and nothing else,
 pub accept-says : (x : Harness) (c : Lending) (s : ℕ) (a : ConnectResponse) → CompleteIn x c s (request.ConnectRes a)
     → errorsHeard x c ≡ [] → telling (saidBy (nextIn x c)) ≡ Went s (a .correlation .0) Accepted ∷ []
-accept-says x c s a m = message-says x c s (request.ConnectRes a) _ m (tells-accept (tableIn x) s (m .size) a)
+accept-says x c s a m = message-says x c s (request.ConnectRes a) _ m (tells-accept (tableIn x) s (m .size) _ (heard-answered x c s _ m))
 
 -- a denial of n 'denied' of n,
 pub denial-says : (x : Harness) (c : Lending) (s : ℕ) (d : DisconnectRequest) → CompleteIn x c s (request.Disconnect d) → 0 < d .correlation .0
     → errorsHeard x c ≡ [] → telling (saidBy (nextIn x c)) ≡ Went s (d .correlation .0) Denied ∷ []
-denial-says x c s d m h = message-says x c s (request.Disconnect d) _ m (tells-denial (tableIn x) s (m .size) d h)
+denial-says x c s d m h = message-says x c s (request.Disconnect d) _ m (tells-denial (tableIn x) s (m .size) _ h (heard-answered x c s _ m))
 
 -- a W of n 'withdrawn' of n,
 pub withdrawal-says : (x : Harness) (c : Lending) (s : ℕ) (n : Correlation) (reason : ℕ) → inputOf (c .bytes) ≡ input.CallWithdrawn s n reason
     → nextIn x c .refusal ≡ 0 → telling (saidBy (nextIn x c)) ≡ Went s (n .0) Withdrawn ∷ []
-withdrawal-says x c s n reason e = input-says x c _ _ e (says-open (tableIn x) (agreed x s .sound) s _ _ _ (says-withdrawn (tableIn x) (agreed x s .sound) s n reason))
+withdrawal-says x c s n reason e = input-says x c _ _ e (says-withdrawn (tableIn x) (agreed x s .sound) (c .bytes) (heard-way x c _ e))
 
 -- and a close 'dropped' of each open one, oldest first.
 pub close-says : (x : Harness) (c : Lending) (s : ℕ) → inputOf (c .bytes) ≡ input.Close s
     → nextIn x c .refusal ≡ 0 → telling (saidBy (nextIn x c)) ≡ map (λ (n : ℕ). Went s n Dropped) (openBy s (heardIn x))
 close-says x c s e z =
-    input-says x c _ _ e (says-open (tableIn x) (agreed x s .sound) s _ _ _ (says-closes (tableIn x) (agreed x s .sound) s)) z
+    input-says x c _ _ e (says-closes (tableIn x) (agreed x s .sound) (c .bytes) s (heard-way x c _ e)) z
     ∙ ap (map (λ (n : ℕ). Went s n Dropped)) (sym (agreed x s .now))
 
 -- ---- and so each is counted under its own name, and under no other, in the stream's newest opening
@@ -286,8 +252,12 @@ Stays x c i = (fates i (heardIn (andThen x c)) ≡ fates i (heardIn x)) × ((k :
 
 stays : (x : Harness) (c : Lending) (i : ℕ) (ys : List Line) → telling (saidBy (nextIn x c)) ≡ ys → allOf (λ (y : Line). not (concerns i y)) ys ≡ true → Stays x c i
 stays x c i ys e h = (
-  fates-more x c i ∙ sym (posts-telling i (saidBy (nextIn x c)) (fates i (heardIn x))) ∙ ap (λ (zs : List Line). posts i zs (fates i (heardIn x))) e ∙ others-post i ys (fates i (heardIn x)) h,
-  λ k. counts-more x c k i ∙ sym (tally-telling k i (saidBy (nextIn x c)) (tallies k i (lines (heardIn x)) [])) ∙ ap (λ (zs : List Line). tallies k i zs (tallies k i (lines (heardIn x)) [])) e ∙ others-tally k i ys (tallies k i (lines (heardIn x)) []) h,
+  fates-more x c i
+      ∙ sym (posts-telling i (saidBy (nextIn x c)) (fates i (heardIn x)))
+      ∙ ap (λ (zs : List Line). posts i zs (fates i (heardIn x))) e
+      ∙ others-post i ys (fates i (heardIn x)) h,
+  λ k. let n : List ℕ = tallies k i (lines (heardIn x)) [] in
+      counts-more x c k i ∙ sym (tally-telling k i (saidBy (nextIn x c)) n) ∙ ap (λ (zs : List Line). tallies k i zs n) e ∙ others-tally k i ys n h,
 )
 
 -- of another stream than the one whose calls end,

@@ -7,7 +7,7 @@ use mathlib.Core.List.{List, [], _∷_, _++_, map, append-assoc, append-nil}
 use lib.ListN.{length, take, drop}
 use lib.Seq.{take-at}
 use native.Mathlib.Omega.{arith}
-use borrow.Author.Tests.{ltb-true, ltb-false}
+use borrow.Author.Tests.{ltb-false}
 use Rattle.ledger.specs.Choice.{_⇒_∣_}
 use Rattle.ledger.proofs.Tallies.{chosen}
 use Rattle.octets.specs.Runs.{over}
@@ -22,18 +22,18 @@ use Rattle.outcomes.specs.Fresh.{Made, freshOf}
 use Rattle.book.specs.Book.{posts, tallies, grantBy}
 use Rattle.book.proofs.Shades.{posts-append, tallies-append, grant-append, fairs, rooteds}
 use Rattle.promises.specs.Answers.{errorsTold}
-use Rattle.promises.proofs.ErrorAck.{errorsIn}
-use Rattle.promises.specs.Soundness.{Sound}
+use Rattle.promises.proofs.Written.{errorsIn}
+use Rattle.keeping.specs.Soundness.{Sound}
 use Rattle.promises.specs.History.{Answered, lines, fates, grantedBy, saidBy}
 use Rattle.promises.proofs.Runs.{Call, answeredBy, run, history}
 use Rattle.promises.specs.Harness.{Lending, leftOn, cameBack, imageAfter, heard, Harness, imageIn, tableIn, heardIn, nextIn, andThen, errorsHeard}
-use Rattle.promises.proofs.Agreement.{Agrees, agrees, are-bytes, kept, fair-history}
-use Rattle.promises.proofs.Images.{image-tidy}
-use Rattle.promises.proofs.Lent.{shaped}
-use Rattle.promises.proofs.Refused.{refusal-is-all}
-use Rattle.promises.proofs.Room.{room-enough}
-use Rattle.promises.proofs.Steps.{good, fresh-sound}
-use Rattle.promises.proofs.Whole.{read-step, told-step}
+use Rattle.promises.proofs.Agreement.{Agrees, agrees, kept, fair-history}
+use Rattle.keeping.proofs.Images.{image-tidy}
+use Rattle.keeping.proofs.Lent.{shaped}
+use Rattle.promises.proofs.Refused.{refusal-is-all, sound-not-sixteen}
+use Rattle.keeping.proofs.Kept.{fresh-sound}
+use Rattle.keeping.proofs.Tested.{sound-test}
+use Rattle.promises.proofs.Whole.{room-enough, read-step, told-step}
 use Rattle.book.specs.declared.Line.{Line}
 use Rattle.book.proofs.Said.{said}
 use Rattle.paper.specs.RecordsIn.{inputOf}
@@ -53,7 +53,7 @@ outcome t c = step t (c .bytes) (length (c .room))
 
 pub record IsStep (t : Table) (c : Lending) (l : Left) : Type 0 where
   pub image : l .image ≡ imageOf (outcome t c .table)
-  pub answer : cameBack c l ≡ answeredBy (asCall c) (outcome t c)
+  pub answer : cameBack c l ≡ answeredBy (c .bytes) (outcome t c)
 
 -- what is taken apart of a number
 same-answer : (c : Lending) (l : Left) (refusal opened : ℕ) (written : List ℕ) → refusalIn (l .number) ≡ refusal → tokenIn (l .number) ≡ opened
@@ -72,10 +72,13 @@ is-step : (t : Table) → Sound t → (c : Lending) → IsStep t c (leaving (ima
 unfolding leaving
 is-step t k c = chosen (IsStep t c) _ _ _
     (λ e. let z : o ≡ refused t (o .refusal) = refusal-is-all t (c .bytes) (length (c .room)) e in
-    let n : o .refusal < 16 = ltb-true (o .refusal) 16 (good t k (c .bytes) (are-bytes (asCall c)) (length (c .room)) .told) in
+    let n : o .refusal < 16 = sound-not-sixteen t (c .bytes) (length (c .room)) (sound-test t k) in
     record {
       image = ap (λ (o : Outcome). imageOf (o .table)) (sym z);
-      answer = same-answer c (left (refusing (o .refusal)) (imageOf t) (c .room)) (o .refusal) 0 [] (omega arith) (omega arith) (none-taken (c .room) (refusing (o .refusal) % 65536) (omega arith)) ∙ ap (answeredBy (asCall c)) (sym z);
+      answer =
+          same-answer c (left (refusing (o .refusal)) (imageOf t) (c .room)) (o .refusal) 0 [] (omega arith) (omega arith)
+          (none-taken (c .room) (refusing (o .refusal) % 65536) (omega arith))
+          ∙ ap (answeredBy (c .bytes)) (sym z);
     })
     (λ e. let n : length bs ≤ 128 = room-enough t k (c .bytes) (length (c .room)) in
     record {
@@ -105,8 +108,8 @@ unfolding heard history
 heard-is-history t k [] = refl
 heard-is-history t k (c ∷ cs) =
     ap (λ (a : Answered). a ∷ heard (leftOn (imageOf t) c .image) cs) (one-call t k c .answer)
-    ∙ ap (λ (img : List ℕ). answeredBy (asCall c) (outcome t c) ∷ heard img cs) (one-call t k c .image)
-    ∙ ap (λ (h : List Answered). answeredBy (asCall c) (outcome t c) ∷ h) (heard-is-history (outcome t c .table) (kept t k (asCall c)) cs)
+    ∙ ap (λ (img : List ℕ). answeredBy (c .bytes) (outcome t c) ∷ heard img cs) (one-call t k c .image)
+    ∙ ap (λ (h : List Answered). answeredBy (c .bytes) (outcome t c) ∷ h) (heard-is-history (outcome t c .table) (kept t k (asCall c)) cs)
 
 -- ---- of a harness
 

@@ -6,25 +6,19 @@ pub mod Endings
 pub mod Openings
 pub mod Grants
 pub mod Orders
--- What they rest on. The sentences on one call of the tables: refusals, errors, OUTSTATE, the next number.
+-- What they rest on. What an effect writes, what the bytes lent say of their record, and what holds on every way that a call can go.
+pub mod Written
+pub mod Letters
+pub mod Orderly
+-- The sentences on one call of the tables: refusals, errors, what is read from its bytes, the rule that answers a message, OUTSTATE, what
+-- may be named in state 9.
 pub mod Refused
 pub mod ErrorAck
-pub mod OutState
-pub mod NextNumber
--- A sound table: the paper's test and the facts, a stream's changes, the table's changes, its image.
-pub mod Tested
-pub mod Changes
-pub mod Leaves
-pub mod Lent
-pub mod Images
--- What a call says: what its records show of the table, every call, the room that it takes, and the same read from bytes.
-pub mod Sights
-pub mod Steps
-pub mod Room
 pub mod Whole
-pub mod Letters
--- Runs on tables; history and table agree, call by call; what a harness hears is that history; what may be named in state 9.
+pub mod Verdicts
+pub mod OutState
+pub mod Named
+-- Runs on tables; history and table agree, call by call; what a harness hears is that history.
 pub mod Runs
 pub mod Agreement
 pub mod Harness
-pub mod Named

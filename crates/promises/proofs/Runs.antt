@@ -16,8 +16,9 @@ pub record Call : Type 0 where
   pub areBytes : areBytes bytes ≡ true
   pub room : ℕ
 
-abbrev pub answeredBy : Call → Outcome → Answered
-answeredBy c o = record { lent = c .bytes; refusal = o .refusal; opened = o .opened; written = allBytes (o .records) }
+-- what comes back of one with these bytes lent
+abbrev pub answeredBy : List ℕ → Outcome → Answered
+answeredBy r o = record { lent = r; refusal = o .refusal; opened = o .opened; written = allBytes (o .records) }
 
 -- the table after calls, from table t on
 unfoldable pub run : Table → List Call → Table
@@ -27,4 +28,4 @@ run t (c ∷ cs) = run (step t (c .bytes) (c .room) .table) cs
 -- the history of calls, from table t on
 unfoldable pub history : Table → List Call → List Answered
 history t [] = []
-history t (c ∷ cs) = answeredBy c (step t (c .bytes) (c .room)) ∷ history (step t (c .bytes) (c .room) .table) cs
+history t (c ∷ cs) = answeredBy (c .bytes) (step t (c .bytes) (c .room)) ∷ history (step t (c .bytes) (c .room) .table) cs

@@ -1,5 +1,5 @@
 -- Demand 2's two sentences on answers, in the paper's words: the errors that a call tells, a complete message that we
--- serve, an accept that offers a stream that isn't idle.
+-- serve, the rule that answers it, a row of the state table, an accept that offers a stream that isn't idle.
 use Prim.Native.Nat.{ℕ, _≤_}
 use mathlib.Core.Path.{_≡_}
 use mathlib.Core.Bool.{Bool, true, false, not}
@@ -7,21 +7,28 @@ use mathlib.Core.List.{List, [], _∷_}
 use lib.ListN.{length, getD}
 use lib.Dec.{eqb}
 use Rattle.ledger.specs.Choice.{both, _⇒_∣_}
+use Rattle.ledger.specs.Tally.{has}
 use Rattle.octets.specs.Numbers.{be32At}
-use Rattle.paper.specs.Base.{isIn, Table, slot}
-use Rattle.paper.specs.Messages.{askedBy}
+use Rattle.paper.specs.Base.{isIn, Table, slot, waiting}
+use Rattle.paper.specs.Messages.{codeIn, askedBy}
 use Rattle.paper.specs.RecordsIn.{inputOf, messageIn}
-use Rattle.paper.specs.RecordsOut.{Record, isMessage}
-use Rattle.paper.specs.ErrorOrder.{isWaiting}
+use Rattle.paper.specs.StateRows.{found}
+use Rattle.paper.specs.Sight.{sends, requestAsks, carrierOf, sightOf}
+use Rattle.paper.specs.ErrorOrder.{verdict}
 use Rattle.image.specs.Layout.{joined}
+use Rattle.paper.specs.RecordsOut.{isMessage}
 use Rattle.book.specs.Lines.{recordsIn}
 use Rattle.paper.specs.declared.Input.the-variants as input
 use Rattle.paper.specs.declared.Asked.the-variants.{For}
 use Rattle.paper.specs.declared.Request.{Request}
 use Rattle.paper.specs.declared.Request.the-variants as request
+use Rattle.paper.specs.declared.Stream.{Stream}
+use Rattle.paper.specs.declared.StateRow.{StateRow}
+use Rattle.paper.specs.declared.Found.{Found}
+use Rattle.paper.specs.declared.Found.the-variants.{At, Missing}
+use Rattle.paper.specs.declared.Verdict.{Verdict}
 use Rattle.paper.specs.declared.Carrier.{Carrier}
 use Rattle.paper.specs.declared.Carrier.the-variants.{Itself, Other, None}
-use Rattle.paper.specs.Sight.{carrierOf}
 
 -- ---- answered with DL_ERROR_ACK
 
@@ -46,6 +53,20 @@ pub record Complete (t : Table) (r : List ℕ) (room i : ℕ) (q : Request) : Ty
   pub roomy : 128 ≤ room
   pub asks : askedBy (messageIn r size) ≡ For q
 
+-- ---- the rule that answers it
+
+-- the order of errors on a message m to stream i, by what it sees
+abbrev pub verdictOf : List StateRow → Table → ℕ → List ℕ → Verdict
+verdictOf rows t i m = verdict (sightOf rows t i (sends (codeIn m) (askedBy m))) (askedBy m)
+
+-- a row of the state table for a request of a stream that stands as s
+abbrev pub isFound : Found → Bool
+isFound (At x) = true
+isFound Missing = false
+
+abbrev pub hasRow : List StateRow → Stream → Request → Bool
+hasRow rows s q = isFound (found rows s (requestAsks q .cause))
+
 -- ---- an accept that offers another stream that isn't idle
 
 -- another stream, not in state 6
@@ -65,7 +86,7 @@ offersBusy t i (request.Bind b) = false
 offersBusy t i request.Unbind = false
 offersBusy t i (request.Connect c) = false
 offersBusy t i (request.ConnectRes a) =
-    both (isWaiting t i (a .correlation)) (both (eqb (a .qos) 0) (isBusy (carrierOf t i (a .token))))
+    both (has (a .correlation .0) (waiting t i)) (both (eqb (a .qos) 0) (isBusy (carrierOf t i (a .token))))
 offersBusy t i (request.Disconnect d) = false
 offersBusy t i request.Reset = false
 offersBusy t i request.ResetRes = false
