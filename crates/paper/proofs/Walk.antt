@@ -20,9 +20,9 @@ use Rattle.paper.specs.Sound.{sound}
 use Rattle.paper.specs.Messages.{codeIn, askedBy}
 use Rattle.paper.specs.Openings.{addsPpa, opens, goodbyes, closes}
 use Rattle.paper.specs.StateRows.{found}
-use Rattle.paper.specs.Sight.{sends, brings, nothing, requestAsks, letterOf, answerTo, sightBy, sightOf}
+use Rattle.paper.specs.Sight.{sends, brings, nothing, requestAsks, letterOf, answerTo, sightBy}
 use Rattle.paper.specs.ErrorCodes.{errorOf}
-use Rattle.paper.specs.ErrorOrder.{verdictBy, verdict}
+use Rattle.paper.specs.ErrorOrder.{verdictBy, verdict, verdictOn}
 use Rattle.paper.specs.Effects.{changed, carried, enacted, ordersIn, behindReply, upsIn, told, effectOf, eventEffect}
 use Rattle.paper.specs.Decide.{Decision, effectBy, isDue, decideBy}
 use Rattle.paper.specs.Step.{enact, comes, ofOpen, message, arrives, serveBy, isReadable, stepBy}
@@ -56,9 +56,6 @@ done t i c m e = served (enacted t i c m e) (told i c (slot t i) (macAt t i) m e
 abbrev pub erring : Table → ℕ → ℕ → Rule → Outcome
 erring t i code w = served t (up i (reply.ErrorAck code (errorOf w)) [] ∷ [])
 
--- the verdict on what message m asks of stream i
-abbrev pub verdictOn : List StateRow → Table → ℕ → List ℕ → Asked → Verdict
-verdictOn rows t i m a = verdict (sightOf rows t i (sends (codeIn m) a)) a
 
 -- A message that asks this is answered with the error of the first rule that applies, or is served by its row.
 pub data Answered (rows : List StateRow) (t : Table) (i : ℕ) (m : List ℕ) : Asked → Outcome → Type 0 where

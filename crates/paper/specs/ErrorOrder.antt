@@ -1,13 +1,15 @@
 -- 'Answers with ERROR_ACK': the order in which the rules are tested. First that applies.
 use Prim.Native.Nat.{ℕ, _+_, _%_}
 use mathlib.Core.Bool.{Bool, not}
+use mathlib.Core.List.{List}
 use lib.ListN.{length}
 use lib.Dec.{eqb, ltb}
 use Rattle.ledger.specs.Choice.{both, either, _⇒_∣_}
 use Rattle.ledger.specs.Tally.{has}
-use Rattle.paper.specs.Base.{isIn}
+use Rattle.paper.specs.Base.{isIn, Table}
 use Rattle.paper.specs.Saps.{isSap, isType, grantOf}
-use Rattle.paper.specs.Sight.{Sight}
+use Rattle.paper.specs.Messages.{codeIn}
+use Rattle.paper.specs.Sight.{sends, Sight, sightOf}
 use Rattle.paper.specs.declared.Correlation.{Correlation}
 use Rattle.paper.specs.declared.PpaNumber.{PpaNumber}
 use Rattle.paper.specs.declared.Stream.{Stream}
@@ -21,6 +23,7 @@ use Rattle.paper.specs.declared.Rule.the-variants as rule
 use Rattle.paper.specs.declared.Carrier.{Carrier}
 use Rattle.paper.specs.declared.Carrier.the-variants.{Itself, Other, None}
 use Rattle.paper.specs.declared.Service.the-variants as service
+use Rattle.paper.specs.declared.StateRow.{StateRow}
 use Rattle.paper.specs.declared.Found.{Found}
 use Rattle.paper.specs.declared.Found.the-variants.{At, Missing}
 use Rattle.paper.specs.declared.Asked.{Asked}
@@ -122,3 +125,7 @@ verdictBy s (For q) (At x) = judgeServed s q
 
 abbrev pub verdict : Sight → Asked → Verdict
 verdict s a = verdictBy s a (s .row)
+
+-- on message m of stream i, which asks this
+abbrev pub verdictOn : List StateRow → Table → ℕ → List ℕ → Asked → Verdict
+verdictOn rows t i m a = verdict (sightOf rows t i (sends (codeIn m) a)) a

@@ -11,7 +11,7 @@ use Rattle.ledger.proofs.Tallies.{occ-length, empty, to-both}
 use Rattle.paper.specs.StateRows.{stateRows}
 use Rattle.paper.specs.Step.{step}
 use Rattle.paper.specs.declared.Asked.the-variants.{For}
-use Rattle.paper.proofs.Walk.{verdictOn}
+use Rattle.paper.specs.ErrorOrder.{verdictOn}
 use Rattle.book.specs.Book.{Opening, openCount, tallies, countIn, openOf, newest, posts, countOf, howMany}
 use Rattle.promises.proofs.Named.{names-accept, names-denial, open-denied}
 use Rattle.book.specs.declared.End.the-variants.{Accepted, Denied, Withdrawn, Dropped}

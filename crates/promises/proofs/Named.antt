@@ -11,7 +11,7 @@ use Rattle.ledger.specs.Tally.{has}
 use Rattle.ledger.proofs.Tallies.{chosen}
 use Rattle.paper.specs.Base.{number, isIn, connectionStates, Table, stream, waiting}
 use Rattle.paper.specs.ErrorCodes.{badCorr}
-use Rattle.paper.specs.ErrorOrder.{judgeOther, judgeItself, judgeCarrier, judgeAccept, judgeDenial, judgeDisconnect, judgeServed, verdictBy}
+use Rattle.paper.specs.ErrorOrder.{judgeOther, judgeItself, judgeCarrier, judgeAccept, judgeDenial, judgeDisconnect, judgeServed, verdictBy, verdictOn}
 use Rattle.paper.specs.Sight.{requestAsks, carrierOf, answerTo, sightBy}
 use Rattle.paper.specs.StateRows.{connectRes, disconnectReq, loses, stateRows, foundIn, found}
 use Rattle.paper.specs.declared.Asked.the-variants.{For}
@@ -28,7 +28,6 @@ use Rattle.paper.specs.declared.Service.the-variants as service
 use Rattle.paper.specs.declared.StateRow.{StateRow}
 use Rattle.paper.specs.declared.Verdict.{Verdict}
 use Rattle.paper.specs.declared.Verdict.the-variants.{Serves}
-use Rattle.paper.proofs.Walk.{verdictOn}
 use Rattle.keeping.specs.Soundness.{Sound}
 use Rattle.promises.proofs.Verdicts.{errorsBy}
 

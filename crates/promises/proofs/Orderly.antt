@@ -12,7 +12,7 @@ use lib.Dec.{eqb, ltb}
 use borrow.Author.Tests.{eqb-true, eqb-false, eq-eqb, ne-eqb, lt-ltb}
 use Rattle.ledger.specs.Choice.{both, either}
 use Rattle.ledger.specs.Tally.{occ, has}
-use Rattle.ledger.proofs.Tallies.{chosen, to-both, within}
+use Rattle.ledger.proofs.Tallies.{chosen, to-both, both-none, within}
 use Rattle.image.proofs.Joined.{part-length}
 use Rattle.book.specs.declared.End.the-variants.{Denied, Withdrawn, Dropped}
 use Rattle.book.specs.declared.Line.the-variants.{Went}
@@ -49,10 +49,6 @@ use Rattle.promises.proofs.Runs.{answeredBy}
 either-right : (a b : Bool) → b ≡ true → either a b ≡ true
 either-right true b h = refl
 either-right false b h = h
-
-both-none : (b : Bool) → both b false ≡ false
-both-none true = refl
-both-none false = refl
 
 none-first : (s : ℕ) → eqb 0 (suc s) ≡ false
 none-first s = ne-eqb 0 (suc s) (λ e. omega (arith, e))

@@ -12,7 +12,7 @@ use Rattle.ledger.specs.Tally.{has}
 use Rattle.ledger.proofs.Tallies.{chosen}
 use Rattle.paper.specs.Base.{isIn, Table, stream, waiting}
 use Rattle.paper.specs.ErrorCodes.{outState}
-use Rattle.paper.specs.ErrorOrder.{judgeAttach, judgeListening, judgeBind, judgeConnect, judgeOther, judgeItself, judgeCarrier, judgeAccept, judgeDenial, judgeDisconnect, judgeServed, verdictBy}
+use Rattle.paper.specs.ErrorOrder.{judgeAttach, judgeListening, judgeBind, judgeConnect, judgeOther, judgeItself, judgeCarrier, judgeAccept, judgeDenial, judgeDisconnect, judgeServed, verdictBy, verdictOn}
 use Rattle.paper.specs.RecordsIn.{messageIn}
 use Rattle.paper.specs.Sight.{requestAsks, carrierOf, answerTo, sightBy}
 use Rattle.paper.specs.Sound.{sound}
@@ -32,7 +32,6 @@ use Rattle.paper.specs.declared.Service.{Service}
 use Rattle.paper.specs.declared.StateRow.{StateRow}
 use Rattle.paper.specs.declared.Verdict.{Verdict}
 use Rattle.paper.specs.declared.Verdict.the-variants.{Serves, Fails}
-use Rattle.paper.proofs.Walk.{verdictOn}
 use Rattle.promises.specs.Answers.{Complete, isFound, hasRow, isBusy, offersBusy}
 use Rattle.promises.proofs.Verdicts.{errorsBy, complete-tells}
 use Rattle.promises.proofs.Written.{errorsIn}

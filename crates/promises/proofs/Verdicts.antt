@@ -16,9 +16,10 @@ use Rattle.paper.specs.declared.Request.{Request}
 use Rattle.paper.specs.declared.StateRow.{StateRow}
 use Rattle.paper.specs.declared.Verdict.{Verdict}
 use Rattle.paper.specs.declared.Verdict.the-variants.{Serves, Fails}
-use Rattle.paper.proofs.Walk.{verdictOn, Answered, failing, serving, answers}
+use Rattle.paper.proofs.Walk.{Answered, failing, serving, answers}
 use Rattle.promises.specs.Answers.{Complete}
 use Rattle.promises.proofs.Written.{errorsIn, service-silent, told-errors}
+use Rattle.paper.specs.ErrorOrder.{verdictOn}
 
 abbrev pub errorsBy : Verdict → List ℕ
 errorsBy (Serves v) = []

@@ -10,11 +10,11 @@ use Rattle.ledger.specs.Choice.{both, _⇒_∣_}
 use Rattle.ledger.specs.Tally.{has}
 use Rattle.octets.specs.Numbers.{be32At}
 use Rattle.paper.specs.Base.{isIn, Table, slot, waiting}
-use Rattle.paper.specs.Messages.{codeIn, askedBy}
+use Rattle.paper.specs.Messages.{askedBy}
 use Rattle.paper.specs.RecordsIn.{inputOf, messageIn}
 use Rattle.paper.specs.StateRows.{found}
-use Rattle.paper.specs.Sight.{sends, requestAsks, carrierOf, sightOf}
-use Rattle.paper.specs.ErrorOrder.{verdict}
+use Rattle.paper.specs.Sight.{requestAsks, carrierOf}
+use Rattle.paper.specs.ErrorOrder.{verdictOn}
 use Rattle.image.specs.Layout.{joined}
 use Rattle.paper.specs.RecordsOut.{isMessage}
 use Rattle.book.specs.Lines.{recordsIn}
@@ -57,7 +57,7 @@ pub record Complete (t : Table) (r : List ℕ) (room i : ℕ) (q : Request) : Ty
 
 -- the order of errors on a message m to stream i, by what it sees
 abbrev pub verdictOf : List StateRow → Table → ℕ → List ℕ → Verdict
-verdictOf rows t i m = verdict (sightOf rows t i (sends (codeIn m) (askedBy m))) (askedBy m)
+verdictOf rows t i m = verdictOn rows t i m (askedBy m)
 
 -- a row of the state table for a request of a stream that stands as s
 abbrev pub isFound : Found → Bool
