@@ -1,2 +1,2 @@
--- Laws of events that callers cite.
-pub mod Laws
+-- Laws of a decision on an event that this crate's proofs cite.
+mod Laws

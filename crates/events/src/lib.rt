@@ -1,190 +1,137 @@
-// What the line brings: the records an event writes, and the table after it.
+// What the line brings.
 ghost use mathlib.Core.Path.{_≡_};
-ghost use mathlib.Core.List.{[], _∷_};
 ghost use Prim.Native.Nat.{ℕ, _<_, _≤_};
-ghost use lib.ListN.{length, take, drop};
-ghost use Rattle.octets.specs.Runs.{over, sameBytes};
-ghost use Rattle.paper.specs.Base.{isIn, stream, macOf};
-ghost use Rattle.paper.specs.RecordsOut.{up, allBytes, flushIf, inOrder};
-ghost use Rattle.paper.specs.Refusals.{served};
-ghost use Rattle.paper.specs.Rows.{moved};
-ghost use Rattle.paper.specs.Events.{peerAccepted, peerGone, callWithdrawn, peerReset, resetConfirmed, heardBy, callArrives};
-ghost use Rattle.paper.specs.Step.{ofOpen};
+ghost use lib.ListN.{length, take};
+ghost use Rattle.octets.specs.Runs.{sameBytes};
+ghost use Rattle.paper.specs.Base.{slot, stream, macOf};
+ghost use Rattle.paper.specs.RecordsIn.{calledIn};
+ghost use Rattle.paper.specs.Refusals.{unexpected, busy};
+ghost use Rattle.paper.specs.Correlations.{nextNumber};
+ghost use Rattle.paper.specs.StateRows.{stateRows};
+ghost use Rattle.paper.specs.Sight.{brings, letterOf};
+ghost use Rattle.paper.specs.Decide.{isDue};
+ghost use Rattle.paper.specs.Step.{comes, ofOpen, arrives};
+ghost use Rattle.paper.specs.declared.Event.the-variants as event;
 ghost use Rattle.image.specs.Layout.{tableOf};
 ghost use Rattle.image.specs.Lent.{Lent};
 ghost use Rattle.outcomes.specs.Leaving.{left, leaving};
+ghost use Rattle.events.specs.DueRow.{dueRow};
 use outcomes::BUSY;
 use outcomes::NOBODY_THERE;
 use outcomes::NOT_OPEN;
 use outcomes::UNEXPECTED;
 use paper::Correlation;
+use paper::Event;
+use paper::Found;
 use paper::PpaNumber;
-use paper::Reply;
-use paper::State;
+use paper::Stream;
 
-// ---- what events share
+// ---- the row by which an event may come
 
-fn is_in(img: &[u8], i: u8, n: u8) -> bool
-    requires { ⌜ (i < 16) × (length (now img) ≡ 760) ⌝ }
-    ensures { λ r. ⌜ r ≡ isIn n (stream (tableOf (now (img .entry))) i) ⌝ }
+// An event's cause in the state rows: its letter.
+fn letter_of(event: Event) -> u8
+    ensures { λ r. ⌜ r ≡ letterOf event ⌝ }
 {
-    let q = image::state_at(img, i as usize);
-    paper::number_of(q) == n
-}
-
-// F where due, then a message up.
-fn put_flushed(room: &mut [u8], on: bool, i: u8, reply: Reply) -> u32
-    requires { ⌜ 128 ≤ length (now room) ⌝ }
-    ensures { λ n. ⌜ (n ≡ length (allBytes (inOrder [] (flushIf on i) (up i reply [] ∷ [])))) × (now (room .exit) ≡ over (allBytes (inOrder [] (flushIf on i) (up i reply [] ∷ []))) (now (room .entry))) ⌝ }
-{
-    let at = replies::put_flush_if(room, on, i);
-    let size = at + replies::put_up(&mut room[at..], i, reply, &[0u8; 0]);
-    size as u32
-}
-
-// The stream goes to another state, and F where due and a message go up.
-fn pass_up(img: &mut [u8], room: &mut [u8], i: u8, q: State, on: bool, reply: Reply) -> u32
-    requires { ⌜ (length (now img) ≡ 760) × Lent (now img) × (128 ≤ length (now room)) ⌝ }
-    ensures { λ r. ⌜ left r (now (img .exit)) (now (room .exit)) ≡ leaving (now (img .entry)) (now (room .entry)) (served (moved (tableOf (now (img .entry))) i q) (inOrder [] (flushIf on i) (up i reply [] ∷ []))) ⌝ }
-{
-    let size = put_flushed(room, on, i, reply);
-    changes::move_stream(img, i, q);
-    size
-}
-
-// ---- events of a stream
-
-// A 8 to 11 (CONNECT_CON)
-pub fn peer_accepted(img: &mut [u8], room: &mut [u8], i: u8, address: &[u8]) -> u32
-    requires { ⌜ (length (now img) ≡ 760) × Lent (now img) × (128 ≤ length (now room)) × (length (now address) ≤ 7) ⌝ }
-    ensures { λ r. ⌜ left r (now (img .exit)) (now (room .exit)) ≡ leaving (now (img .entry)) (now (room .entry)) (ofOpen (tableOf (now (img .entry))) i (peerAccepted (tableOf (now (img .entry))) i (now (address .entry)))) ⌝ }
-{
-    if !image::is_open(img, i as usize) {
-        return outcomes::refused(NOT_OPEN);
+    match event {
+        Event::Arrives(_) => b'I',
+        Event::Accepted => b'A',
+        Event::Gone(_) => b'D',
+        Event::Withdrawn(_, _) => b'W',
+        Event::Resets(_) => b'R',
+        Event::Confirmed => b'S',
     }
-    if !is_in(img, i, 8) {
-        return outcomes::refused(UNEXPECTED);
-    }
-    let size = replies::put_up(room, i, Reply::ConnectCon, address);
-    changes::move_stream(img, i, State::DataXfer);
-    size as u32
 }
 
-// D 8, 11, 12, 13 to 6 (F except from 8, DISCONNECT_IND, correlation 0)
-pub fn peer_gone(img: &mut [u8], room: &mut [u8], i: u8, reason: u32) -> u32
-    requires { ⌜ (length (now img) ≡ 760) × Lent (now img) × (128 ≤ length (now room)) ⌝ }
-    ensures { λ r. ⌜ left r (now (img .exit)) (now (room .exit)) ≡ leaving (now (img .entry)) (now (room .entry)) (ofOpen (tableOf (now (img .entry))) i (peerGone (tableOf (now (img .entry))) i reason)) ⌝ }
+// I: the listener has less than its granted count open. W: the number is open on that stream.
+fn is_due(img: &[u8], i: u8, s: Stream, event: Event) -> bool
+    requires { ⌜ (i < 16) × (length (now img) ≡ 760) × Lent (now img) × (s ≡ stream (tableOf (now img)) i) ⌝ }
+    ensures { λ r. ⌜ r ≡ isDue (slot (tableOf (now (img .entry))) i) event ⌝ }
+{
+    match event {
+        Event::Arrives(_) => {
+            let count = image::count_at(img, i as usize);
+            count < s.granted
+        }
+        Event::Accepted => true,
+        Event::Gone(_) => true,
+        Event::Withdrawn(n, _) => calls::is_waiting(img, i as usize, n),
+        Event::Resets(_) => true,
+        Event::Confirmed => true,
+    }
+}
+
+// None where the event is not due on stream i, which stands as s.
+fn row_of(img: &[u8], i: u8, s: Stream, event: Event) -> Found
+    requires { ⌜ (i < 16) × (length (now img) ≡ 760) × Lent (now img) × (s ≡ stream (tableOf (now img)) i) ⌝ }
+    ensures { λ r. ⌜ r ≡ dueRow (tableOf (now (img .entry))) i event ⌝ }
+{
+    if !is_due(img, i, s, event) {
+        return Found::Missing;
+    }
+    rows::row_for(s, letter_of(event))
+}
+
+// ---- A, D, W, R and S
+
+// An event of stream i: refusals 2 and 6, then what its row says.
+pub fn come(img: &mut [u8], room: &mut [u8], i: u8, r: &[u8], event: Event) -> u32
+    requires { ⌜ (length (now img) ≡ 760) × Lent (now img) × (128 ≤ length (now room)) × (stream (tableOf (now img)) i .granted ≤ 8) ⌝ }
+    ensures { λ n. ⌜ left n (now (img .exit)) (now (room .exit)) ≡ leaving (now (img .entry)) (now (room .entry)) (ofOpen (tableOf (now (img .entry))) i (comes stateRows (tableOf (now (img .entry))) i (now (r .entry)) (brings unexpected event))) ⌝ }
 {
     if !image::is_open(img, i as usize) {
         return outcomes::refused(NOT_OPEN);
     }
     let s = image::load_stream(img, i as usize);
-    if !rules::is_calling(s) {
-        return outcomes::refused(UNEXPECTED);
+    let found = row_of(img, i, s, event);
+    match found {
+        Found::Missing => outcomes::refused(UNEXPECTED),
+        Found::At(x) => { enacting::enact(img, room, i, i, r, effects::event_effect(x, s, event)) }
     }
-    let on = !is_in(img, i, 8);
-    pass_up(
-        img,
-        room,
-        i,
-        State::Idle,
-        on,
-        Reply::DisconnectInd(reason, Correlation(0)),
-    )
 }
 
-// W (DISCONNECT_IND with the number)
-pub fn call_withdrawn(img: &mut [u8], room: &mut [u8], i: u8, n: Correlation, reason: u32) -> u32
-    requires { ⌜ (length (now img) ≡ 760) × Lent (now img) × (128 ≤ length (now room)) ⌝ }
-    ensures { λ r. ⌜ left r (now (img .exit)) (now (room .exit)) ≡ leaving (now (img .entry)) (now (room .entry)) (ofOpen (tableOf (now (img .entry))) i (callWithdrawn (tableOf (now (img .entry))) i n reason)) ⌝ }
-{
-    if !image::is_open(img, i as usize) {
-        return outcomes::refused(NOT_OPEN);
-    }
-    if !calls::is_waiting(img, i as usize, n) {
-        return outcomes::refused(UNEXPECTED);
-    }
-    let size = replies::put_up(room, i, Reply::DisconnectInd(reason, n), &[0u8; 0]);
-    changes::lose_call(img, i, n);
-    size as u32
-}
+// ---- I
 
-// R 11 to 13 (F, RESET_IND)
-pub fn peer_reset(img: &mut [u8], room: &mut [u8], i: u8, reason: u32) -> u32
-    requires { ⌜ (length (now img) ≡ 760) × Lent (now img) × (128 ≤ length (now room)) ⌝ }
-    ensures { λ r. ⌜ left r (now (img .exit)) (now (room .exit)) ≡ leaving (now (img .entry)) (now (room .entry)) (ofOpen (tableOf (now (img .entry))) i (peerReset (tableOf (now (img .entry))) i reason)) ⌝ }
-{
-    if !image::is_open(img, i as usize) {
-        return outcomes::refused(NOT_OPEN);
-    }
-    if !is_in(img, i, 11) {
-        return outcomes::refused(UNEXPECTED);
-    }
-    pass_up(
-        img,
-        room,
-        i,
-        State::ProvResetPending,
-        true,
-        Reply::ResetInd(reason),
-    )
-}
-
-// S 12 to 11 (F, RESET_CON)
-pub fn reset_confirmed(img: &mut [u8], room: &mut [u8], i: u8) -> u32
-    requires { ⌜ (length (now img) ≡ 760) × Lent (now img) × (128 ≤ length (now room)) ⌝ }
-    ensures { λ r. ⌜ left r (now (img .exit)) (now (room .exit)) ≡ leaving (now (img .entry)) (now (room .entry)) (ofOpen (tableOf (now (img .entry))) i (resetConfirmed (tableOf (now (img .entry))) i)) ⌝ }
-{
-    if !image::is_open(img, i as usize) {
-        return outcomes::refused(NOT_OPEN);
-    }
-    if !is_in(img, i, 12) {
-        return outcomes::refused(UNEXPECTED);
-    }
-    pass_up(img, room, i, State::DataXfer, true, Reply::ResetCon)
-}
-
-// ---- a call that arrives
-
-// I 6 or 9 to 9 (CONNECT_IND): the listener takes one more open indication, unless it is busy.
-fn heard_by(img: &mut [u8], room: &mut [u8], i: u8, addresses: &[u8]) -> u32
-    requires { ⌜ (length (now img) ≡ 760) × Lent (now img) × (128 ≤ length (now room)) × (i < 16) × (length (now addresses) ≡ 14) × (stream (tableOf (now img)) i .granted ≤ 8) ⌝ }
-    ensures { λ r. ⌜ left r (now (img .exit)) (now (room .exit)) ≡ leaving (now (img .entry)) (now (room .entry)) (heardBy (tableOf (now (img .entry))) i (take 7 (now (addresses .entry))) (drop 7 (now (addresses .entry)))) ⌝ }
+// The listener takes the next number, unless it is busy. (Whether a call may come does not depend on its number, which is
+// looked for only then.)
+fn heard_by(img: &mut [u8], room: &mut [u8], i: u8, r: &[u8]) -> u32
+    requires { ⌜ (i < 16) × (length (now img) ≡ 760) × Lent (now img) × (128 ≤ length (now room)) × (stream (tableOf (now img)) i .granted ≤ 8) ⌝ }
+    ensures { λ n. ⌜ left n (now (img .exit)) (now (room .exit)) ≡ leaving (now (img .entry)) (now (room .entry)) (comes stateRows (tableOf (now (img .entry))) i (now (r .entry)) (brings busy (event.Arrives (record { 0 = nextNumber (tableOf (now (img .entry))) })))) ⌝ }
 {
     let s = image::load_stream(img, i as usize);
-    let count = image::count_at(img, i as usize);
-    if !rules::hears(s, count) {
-        return outcomes::refused(BUSY);
+    let found = row_of(img, i, s, Event::Arrives(Correlation(0)));
+    match found {
+        Found::Missing => outcomes::refused(BUSY),
+        Found::At(x) => {
+            let n = calls::next_number(img);
+            let e = effects::event_effect(x, s, Event::Arrives(Correlation(n)));
+            enacting::enact(img, room, i, i, r, e)
+        }
     }
-    let n = calls::next_number(img);
-    let size = replies::put_up(room, i, Reply::ConnectInd(Correlation(n)), addresses);
-    changes::ring(img, i, n);
-    size as u32
 }
 
-// The called MAC is that of the PPA. The called address comes first, its MAC before its SAP.
-fn is_called(img: &[u8], p: PpaNumber, addresses: &[u8]) -> bool
-    requires { ⌜ (length (now img) ≡ 760) × Lent (now img) × (length (now addresses) ≡ 14) ⌝ }
-    ensures { λ r. ⌜ r ≡ sameBytes (take 6 (take 7 (now (addresses .entry)))) (macOf (tableOf (now (img .entry))) p) ⌝ }
+// The called MAC is that of the PPA. In the record the called address comes first, its MAC before its SAP.
+fn is_called(img: &[u8], p: PpaNumber, r: &[u8]) -> bool
+    requires { ⌜ (length (now img) ≡ 760) × Lent (now img) ⌝ }
+    ensures { λ b. ⌜ b ≡ sameBytes (take 6 (calledIn (now (r .entry)))) (macOf (tableOf (now (img .entry))) p) ⌝ }
 {
     let mac = lookup::mac_of(img, p);
-    octets::same_bytes(&addresses[0..6], &mac)
+    octets::same_bytes(octets::part_at(r, 5, 6), &mac)
 }
 
-// I: the PPA is known and has the called MAC, and somebody listens for it and the SAP.
-pub fn call_arrives(img: &mut [u8], room: &mut [u8], p: PpaNumber, sap: u8, addresses: &[u8]) -> u32
-    requires { ⌜ (length (now img) ≡ 760) × Lent (now img) × (128 ≤ length (now room)) × (length (now addresses) ≡ 14) × ((i : ℕ) → stream (tableOf (now img)) i .granted ≤ 8) ⌝ }
-    ensures { λ r. ⌜ left r (now (img .exit)) (now (room .exit)) ≡ leaving (now (img .entry)) (now (room .entry)) (callArrives (tableOf (now (img .entry))) p sap (take 7 (now (addresses .entry))) (drop 7 (now (addresses .entry)))) ⌝ }
+// The PPA is known and has the called MAC, and somebody listens for it and the SAP.
+pub fn call_arrives(img: &mut [u8], room: &mut [u8], p: PpaNumber, sap: u8, r: &[u8]) -> u32
+    requires { ⌜ (length (now img) ≡ 760) × Lent (now img) × (128 ≤ length (now room)) × ((i : ℕ) → stream (tableOf (now img)) i .granted ≤ 8) ⌝ }
+    ensures { λ n. ⌜ left n (now (img .exit)) (now (room .exit)) ≡ leaving (now (img .entry)) (now (room .entry)) (arrives stateRows (tableOf (now (img .entry))) p sap (now (r .entry))) ⌝ }
 {
     if !lookup::knows(img, p) {
         return outcomes::refused(NOBODY_THERE);
     }
-    if !is_called(img, p, addresses) {
+    if !is_called(img, p, r) {
         return outcomes::refused(NOBODY_THERE);
     }
     let i = lookup::listener(img, p, octets::wide(sap));
     if 16 <= i {
         return outcomes::refused(NOBODY_THERE);
     }
-    heard_by(img, room, i as u8, addresses)
+    heard_by(img, room, i as u8, r)
 }

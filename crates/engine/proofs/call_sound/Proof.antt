@@ -8,7 +8,8 @@ use Rattle.soundness.proofs.Slots.{sound-lent}
 use Rattle.image.proofs.Lending.{lent-length}
 use Rattle.outcomes.proofs.Laws.{leaves-refused, where-true, where-false}
 use Rattle.outcomes.specs.Leaving.{left, leaving}
-use Rattle.paper.specs.Step.{serve, isReadable}
+use Rattle.paper.specs.StateRows.{stateRows}
+use Rattle.paper.specs.Step.{serveBy, isReadable}
 use Rattle.paper.specs.declared.Input.{Input}
 use Rattle.engine.proofs.Laws.{call-on}
 use borrow.Author.Needs.{needs}
@@ -48,7 +49,7 @@ returns-3 c =
     let r = now (a .args .r) in
     where-false img room _ _ (ap not (sym (c .before .before .before .before .before .before .before .before .before .is-readable .ensures ∙ ap isReadable (c .before .before .before .before .before .before .before .before .before .before .input-of .ensures))) ∙ c .before .before .before .before .before .before .before .before .if1 .left)
     (where-false img room _ _ (le-ltb _ _ (c .before .before .before .before .before .before .before .if2 .left)) (c .before .before .before .before .serve .ensures
-    ∙ ap (λ (q : Input). leaving img room (serve (tableOf img) r q)) (c .before .before .before .before .before .before .before .before .before .before .input-of .ensures)))
+    ∙ ap (λ (q : Input). leaving img room (serveBy stateRows (tableOf img) r q)) (c .before .before .before .before .before .before .before .before .before .before .input-of .ensures)))
     ∙ call-on img r room (a .pre)
 
 pub call-sound-spec : {M : Type 1} → statement M

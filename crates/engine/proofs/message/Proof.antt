@@ -9,9 +9,10 @@ use Rattle.image.specs.Layout.{tableOf}
 use Rattle.lookup.proofs.Laws.{open-within}
 use Rattle.outcomes.proofs.Laws.{part-most, leaves-refused, where-true, where-false}
 use Rattle.outcomes.specs.Leaving.{left, leaving}
-use Rattle.paper.specs.ErrorOrder.{verdictOn}
-use Rattle.paper.specs.Messages.{askedBy}
-use Rattle.paper.specs.Step.{answered, ofOpen, message}
+use Rattle.paper.specs.Messages.{codeIn, askedBy}
+use Rattle.paper.specs.StateRows.{stateRows}
+use Rattle.paper.specs.Sight.{sends}
+use Rattle.paper.specs.Step.{comes, ofOpen, message}
 use borrow.Author.Needs.{needs}
 use Rattle.engine.proofs.message.Statement.{statement}
 use Rattle.engine.proofs.message.Tie as tie
@@ -61,7 +62,7 @@ returns-4 c =
     where-false img room _ _ (ap not (sym (c .before .before .before .before .before .before .before .before .before .before .before .is-open .ensures)) ∙ c .before .before .before .before .before .before .before .before .before .before .if1 .left)
     (where-false img room _ _ (le-ltb _ _ (c .before .before .before .before .before .before .before .before .before .if2 .left))
     (where-false img room _ _ (le-ltb _ _ (c .before .before .before .before .before .before .before .before .if3 .left)) (c .before .before .before .before .answer .ensures
-    ∙ ap (λ (m : List ℕ). leaving img room (answered t (a .args .i) m (verdictOn t (a .args .i) (askedBy m)))) (c .before .before .before .before .before .part-at .ensures))))
+    ∙ ap (λ (m : List ℕ). leaving img room (comes stateRows t (a .args .i) m (sends (codeIn m) (askedBy m)))) (c .before .before .before .before .before .part-at .ensures))))
 
 pub message-spec : {M : Type 1} → statement M
 message-spec =

@@ -3,17 +3,14 @@ use native.Mathlib.Omega.{arith}
 use mathlib.Core.Path.{ap, _∙_}
 use mathlib.Core.List.{List}
 use denote.Ref.{now}
-use lib.ListN.{take, drop}
 use Rattle.image.specs.Layout.{tableOf}
-use Rattle.records.proofs.Laws.{adds-long, calls-long}
-use Rattle.soundness.proofs.Slots.{shut, sound-lent}
 use Rattle.image.proofs.Joined.{part-length}
-use Rattle.outcomes.proofs.Laws.{part-most, leaves-refused}
+use Rattle.records.proofs.Laws.{adds-long}
+use Rattle.soundness.proofs.Slots.{shut, sound-lent}
 use Rattle.outcomes.specs.Leaving.{leaving}
+use Rattle.outcomes.proofs.Laws.{leaves-refused}
 use Rattle.paper.specs.Openings.{addsPpa}
-use Rattle.paper.specs.Events.{callArrives, peerAccepted}
-use Rattle.paper.specs.Step.{ofOpen, message}
-use Rattle.engine.proofs.Laws.{parts, granted-few, first-seven, other-seven}
+use Rattle.engine.proofs.Laws.{parts, granted-few}
 use borrow.Author.Needs.{needs}
 use Rattle.engine.proofs.serve.Statement.{statement}
 use Rattle.engine.proofs.serve.Tie as tie
@@ -42,35 +39,39 @@ message-requires c κs =
 
 call-arrives-requires : tie.Need-call-arrives-requires
 call-arrives-requires c κs =
-    let a = c .before .before .before .before .before .before .before .before .before in
+    let a = c .before .before .before .before .before .before .before .before in
     let img = now (a .args .img) in
-    let r = now (a .args .r) in
-    (a .pre .0, sound-lent img (a .pre .1), a .pre .2, rw (c .part-at2 .ensures) (part-length r 5 14 (calls-long r _ _ (a .pre .3 ∙ c .before .before .before .before .q4 .given .1))), granted-few (tableOf img) (parts img (a .pre .1) .1))
+    (a .pre .0, sound-lent img (a .pre .1), a .pre .2, granted-few img (a .pre .1))
 
-peer-accepted-requires : tie.Need-peer-accepted-requires
-peer-accepted-requires c κs =
-    let a = c .before .before .before .before .before .before .before .before .before in
-    (a .pre .0, sound-lent (now (a .args .img)) (a .pre .1), a .pre .2, rw (c .part-at3 .ensures) (part-most (now (a .args .r)) 2 7))
-
-peer-gone-requires : tie.Need-peer-gone-requires
-peer-gone-requires c κs =
+come-requires : tie.Need-come-requires
+come-requires c κs =
     let a = c .before .before .before .before .before .before .before .before in
-    (a .pre .0, sound-lent (now (a .args .img)) (a .pre .1), a .pre .2)
+    let img = now (a .args .img) in
+    (a .pre .0, sound-lent img (a .pre .1), a .pre .2, granted-few img (a .pre .1) _)
 
-call-withdrawn-requires : tie.Need-call-withdrawn-requires
-call-withdrawn-requires c κs =
+come-requires-2 : tie.Need-come-requires-2
+come-requires-2 c κs =
     let a = c .before .before .before .before .before .before .before .before in
-    (a .pre .0, sound-lent (now (a .args .img)) (a .pre .1), a .pre .2)
+    let img = now (a .args .img) in
+    (a .pre .0, sound-lent img (a .pre .1), a .pre .2, granted-few img (a .pre .1) _)
 
-peer-reset-requires : tie.Need-peer-reset-requires
-peer-reset-requires c κs =
+come-requires-3 : tie.Need-come-requires-3
+come-requires-3 c κs =
     let a = c .before .before .before .before .before .before .before .before in
-    (a .pre .0, sound-lent (now (a .args .img)) (a .pre .1), a .pre .2)
+    let img = now (a .args .img) in
+    (a .pre .0, sound-lent img (a .pre .1), a .pre .2, granted-few img (a .pre .1) _)
 
-reset-confirmed-requires : tie.Need-reset-confirmed-requires
-reset-confirmed-requires c κs =
+come-requires-4 : tie.Need-come-requires-4
+come-requires-4 c κs =
     let a = c .before .before .before .before .before .before .before .before in
-    (a .pre .0, sound-lent (now (a .args .img)) (a .pre .1), a .pre .2)
+    let img = now (a .args .img) in
+    (a .pre .0, sound-lent img (a .pre .1), a .pre .2, granted-few img (a .pre .1) _)
+
+come-requires-5 : tie.Need-come-requires-5
+come-requires-5 c κs =
+    let a = c .before .before .before .before .before .before .before .before in
+    let img = now (a .args .img) in
+    (a .pre .0, sound-lent img (a .pre .1), a .pre .2, granted-few img (a .pre .1) _)
 
 returns : tie.Need-returns
 returns c =
@@ -106,33 +107,22 @@ returns-6 : tie.Need-returns-6
 returns-6 c = rw (c .before .before .before .before .before .before .before .before .q3 .given .1) (c .before .before .before .before .message .ensures)
 
 returns-7 : tie.Need-returns-7
-returns-7 c =
-    let r = now (c .before .before .before .before .before .before .before .before .before .before .before .before .before .before .args .r) in
-    let h = calls-long r _ _ (c .before .before .before .before .before .before .before .before .before .before .before .before .before .before .pre .3 ∙ c .before .before .before .before .before .before .before .before .before .q4 .given .1) in
-    let e = c .before .before .before .before .before .part-at2 .ensures in
-    let called = ap (take 7) e ∙ first-seven r h in
-    let calling = ap (drop 7) e ∙ other-seven r h in
-    rw (c .before .before .before .before .before .before .before .before .before .q4 .given .1) (c .before .before .before .before .call-arrives .ensures ∙ (λ d. leaving (now (c .before .before .before .before .before .before .before .before .before .before .before .before .before .before .args .img)) (now (c .before .before .before .before .before .before .before .before .before .before .before .before .before .before .args .room)) (callArrives (tableOf (now (c .before .before .before .before .before .before .before .before .before .before .before .before .before .before .args .img))) (c .before .before .before .before .before .before .before .before .before .q4 .given .0 .0) (c .before .before .before .before .before .before .before .before .before .q4 .given .0 .1 .0) (called d) (calling d))))
+returns-7 c = rw (c .before .before .before .before .before .before .before .before .q4 .given .1) (c .before .before .before .before .call-arrives .ensures)
 
 returns-8 : tie.Need-returns-8
-returns-8 c =
-    let a = c .before .before .before .before .before .before .before .before .before .before .before .before .before .before in
-    let img = now (a .args .img) in
-    let t = tableOf img in
-    rw (c .before .before .before .before .before .before .before .before .before .q5 .given .1) (c .before .before .before .before .peer-accepted .ensures
-    ∙ ap (λ (m : List ℕ). leaving img (now (a .args .room)) (ofOpen t (c .before .before .before .before .before .before .before .before .before .q5 .given .0 .0) (peerAccepted t (c .before .before .before .before .before .before .before .before .before .q5 .given .0 .0) m))) (c .before .before .before .before .before .part-at3 .ensures))
+returns-8 c = rw (c .before .before .before .before .before .before .before .before .q5 .given .1) (c .before .before .before .before .come .ensures)
 
 returns-9 : tie.Need-returns-9
-returns-9 c = rw (c .before .before .before .before .before .before .before .before .q6 .given .1) (c .before .before .before .before .peer-gone .ensures)
+returns-9 c = rw (c .before .before .before .before .before .before .before .before .q6 .given .1) (c .before .before .before .before .come2 .ensures)
 
 returns-10 : tie.Need-returns-10
-returns-10 c = rw (c .before .before .before .before .before .before .before .before .q7 .given .1) (c .before .before .before .before .call-withdrawn .ensures)
+returns-10 c = rw (c .before .before .before .before .before .before .before .before .q7 .given .1) (c .before .before .before .before .come3 .ensures)
 
 returns-11 : tie.Need-returns-11
-returns-11 c = rw (c .before .before .before .before .before .before .before .before .q8 .given .1) (c .before .before .before .before .peer-reset .ensures)
+returns-11 c = rw (c .before .before .before .before .before .before .before .before .q8 .given .1) (c .before .before .before .before .come4 .ensures)
 
 returns-12 : tie.Need-returns-12
-returns-12 c = rw (c .before .before .before .before .before .before .before .before .q9 .given .1) (c .before .before .before .before .reset-confirmed .ensures)
+returns-12 c = rw (c .before .before .before .before .before .before .before .before .q9 .given .1) (c .before .before .before .before .come5 .ensures)
 
 pub serve-spec : {M : Type 1} → statement M
 serve-spec =
@@ -152,19 +142,17 @@ serve-spec =
     (λ c. search needs)
     message-requires
     (λ c. search needs)
-    (λ c κs. search needs)
     call-arrives-requires
     (λ c. search needs)
-    (λ c κs. search needs)
-    peer-accepted-requires
+    come-requires
     (λ c. search needs)
-    peer-gone-requires
+    come-requires-2
     (λ c. search needs)
-    call-withdrawn-requires
+    come-requires-3
     (λ c. search needs)
-    peer-reset-requires
+    come-requires-4
     (λ c. search needs)
-    reset-confirmed-requires
+    come-requires-5
     returns
     returns-2
     (λ c. search needs)

@@ -1,0 +1,2 @@
+-- Laws of a decision on a message that this crate's proofs cite.
+mod Laws
