@@ -12,14 +12,13 @@ use Rattle.paper.specs.StateRows.{stateRows}
 use Rattle.paper.specs.Step.{step}
 use Rattle.promises.proofs.Orderly.{orderly}
 
-module _ (t : Table) (r : List ℕ) (room : ℕ) where
-  pub refusal-is-all : ltb 0 (step t r room .refusal) ≡ true → step t r room ≡ refused t (step t r room .refusal)
-  refusal-is-all = orderly stateRows t r room .bare
+pub refusal-is-all : (t : Table) (r : List ℕ) (room : ℕ) → ltb 0 (step t r room .refusal) ≡ true → step t r room ≡ refused t (step t r room .refusal)
+refusal-is-all t r room = orderly stateRows t r room .bare
 
-  -- and the number is one of the paper's, 16 at most,
-  pub refusal-small : step t r room .refusal < 17
-  refusal-small = orderly stateRows t r room .small
+-- and the number is one of the paper's, 16 at most,
+pub refusal-small : (t : Table) (r : List ℕ) (room : ℕ) → step t r room .refusal < 17
+refusal-small t r room = orderly stateRows t r room .small
 
-  -- which a sound table never gets.
-  pub sound-not-sixteen : sound t ≡ true → step t r room .refusal < 16
-  sound-not-sixteen = orderly stateRows t r room .soundly
+-- which a sound table never gets.
+pub sound-not-sixteen : (t : Table) (r : List ℕ) (room : ℕ) → sound t ≡ true → step t r room .refusal < 16
+sound-not-sixteen t r room = orderly stateRows t r room .soundly
