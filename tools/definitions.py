@@ -35,7 +35,7 @@ use Rattle.transcript.specs.Transcript.{title, totals}
 use Rattle.book.specs.declared.Line.{Line}
 use Rattle.book.specs.Lines.{linesOf as saidBy}
 use Rattle.register.specs.Register.{blank}
-use Rattle.report.specs.Report.{title as heading, closing}
+use Rattle.report.specs.Report.{heading, closing}
 USES
 
 -- the record lent, and what must be printed of its call

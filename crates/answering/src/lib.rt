@@ -44,7 +44,7 @@ fn alone(i: u8, verdict: Verdict) -> Judged
 }
 
 // The stream that the token names.
-fn place_of(i: u8, carrier: Carrier) -> u8
+fn carrier_at(i: u8, carrier: Carrier) -> u8
     ensures { λ r. ⌜ r ≡ carrierAt i carrier ⌝ }
 {
     match carrier {
@@ -55,7 +55,7 @@ fn place_of(i: u8, carrier: Carrier) -> u8
 }
 
 // 6. CONNECT_RES: its number among the open ones, how many these are, and the stream that its token names.
-fn judge_accept(img: &[u8], i: u8, s: Stream, a: ConnectResponse) -> Judged
+fn judged_accept(img: &[u8], i: u8, s: Stream, a: ConnectResponse) -> Judged
     requires { ⌜ (i < 16) × (length (now img) ≡ 760) × Lent (now img) × (s ≡ stream (tableOf (now img)) i) ⌝ }
     ensures { λ r. ⌜ RightlyJudged (tableOf (now (img .entry))) i (request.ConnectRes a) r ⌝ }
 {
@@ -66,7 +66,7 @@ fn judge_accept(img: &[u8], i: u8, s: Stream, a: ConnectResponse) -> Judged
     let count = image::count_at(img, at);
     let carrier = lookup::carrier_of(img, i, k);
     let verdict = rules::judge_accept(s, a, waits, count, carrier);
-    let place = place_of(i, carrier);
+    let place = carrier_at(i, carrier);
     Judged {
         verdict: verdict,
         carrier: place,
@@ -74,7 +74,7 @@ fn judge_accept(img: &[u8], i: u8, s: Stream, a: ConnectResponse) -> Judged
 }
 
 // 7. DISCONNECT_REQ: its number among the open ones.
-fn judge_disconnect(img: &[u8], i: u8, s: Stream, d: DisconnectRequest) -> Judged
+fn judged_disconnect(img: &[u8], i: u8, s: Stream, d: DisconnectRequest) -> Judged
     requires { ⌜ (i < 16) × (length (now img) ≡ 760) × Lent (now img) × (s ≡ stream (tableOf (now img)) i) ⌝ }
     ensures { λ r. ⌜ RightlyJudged (tableOf (now (img .entry))) i (request.Disconnect d) r ⌝ }
 {
@@ -83,7 +83,7 @@ fn judge_disconnect(img: &[u8], i: u8, s: Stream, d: DisconnectRequest) -> Judge
     alone(i, rules::judge_disconnect(s, d, waits))
 }
 
-fn judge_served(img: &[u8], i: u8, s: Stream, q: Request) -> Judged
+fn judged_request(img: &[u8], i: u8, s: Stream, q: Request) -> Judged
     requires { ⌜ (i < 16) × (length (now img) ≡ 760) × Lent (now img) × (s ≡ stream (tableOf (now img)) i) ⌝ }
     ensures { λ r. ⌜ RightlyJudged (tableOf (now (img .entry))) i q r ⌝ }
 {
@@ -102,8 +102,8 @@ fn judge_served(img: &[u8], i: u8, s: Stream, q: Request) -> Judged
         }
         Request::Unbind => alone(i, Verdict::Serves(Service::Unbind)),
         Request::Connect(c) => alone(i, rules::judge_connect(c)),
-        Request::ConnectRes(a) => judge_accept(img, i, s, a),
-        Request::Disconnect(d) => judge_disconnect(img, i, s, d),
+        Request::ConnectRes(a) => judged_accept(img, i, s, a),
+        Request::Disconnect(d) => judged_disconnect(img, i, s, d),
         Request::Reset => alone(i, Verdict::Serves(Service::Reset)),
         Request::ResetRes => alone(i, Verdict::Serves(Service::ResetRes)),
     }
@@ -147,7 +147,7 @@ fn answer_request(img: &mut [u8], room: &mut [u8], i: u8, m: &[u8], code: u32, q
             effects::error_effect(code, Rule::NoRow),
         ),
         Found::At(x) => {
-            let judged = judge_served(img, i, s, q);
+            let judged = judged_request(img, i, s, q);
             let verdict = judged.verdict;
             let carrier = judged.carrier;
             let e = effects::effect_by(x, Token(i as u32 + 1), code, s, verdict);

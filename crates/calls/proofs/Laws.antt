@@ -15,7 +15,7 @@ use Rattle.octets.specs.Numbers.{be32At, be32}
 use Rattle.octets.specs.Runs.{part, paste}
 use Rattle.octets.specs.Blocks.{flat}
 use Rattle.octets.proofs.Laws.{paste-join, flat-length}
-use Rattle.paper.specs.Base.{Slot, Table, slot, stream, waiting, withCalls}
+use Rattle.paper.specs.Base.{Slot, Table, slot, stream, waiting, withNumbers}
 use Rattle.paper.specs.declared.Stream.{Stream}
 use Rattle.image.specs.Layout.{slotBase, listed, waitingFrom, slotAt, tableOf, padTo, joined, streamBytes, waitingBytes, slotBytes, imageOf}
 use Rattle.image.specs.Lent.{Lent}
@@ -58,7 +58,7 @@ module _ (img : List ℕ) (l : Lent img) (i : ℕ) (b : i < 16) where
 
   -- a stream and its open numbers are stored
   pub calls-stored : (s : Stream) (w : List ℕ) → length w ≤ 8
-      → paste img (slotBase i) (streamBytes s ++ waitingBytes w) ≡ imageOf (withCalls (tableOf img) i s w)
+      → paste img (slotBase i) (streamBytes s ++ waitingBytes w) ≡ imageOf (withNumbers (tableOf img) i s w)
   calls-stored s w h =
       ap (λ (r : List ℕ). paste r (slotBase i) (streamBytes s ++ waitingBytes w)) (sym (l .same)) ∙ store-calls (tableOf img) (l .shaped) i b s w h
 

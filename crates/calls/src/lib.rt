@@ -6,7 +6,7 @@ ghost use lib.Dec.{eqb};
 ghost use lib.ListN.{length, getD, take, drop};
 ghost use Rattle.ledger.specs.Tally.{occ, has, without, firstOf, free};
 ghost use Rattle.octets.specs.Runs.{paste};
-ghost use Rattle.paper.specs.Base.{Slot, waiting, withCalls};
+ghost use Rattle.paper.specs.Base.{Slot, waiting, withNumbers};
 ghost use Rattle.paper.specs.Correlations.{occurrences, nextNumber};
 ghost use Rattle.image.specs.Layout.{slotBase, tableOf, joined, streamBytes, waitingBytes, imageOf};
 ghost use Rattle.image.specs.Lent.{Lent};
@@ -14,7 +14,7 @@ use paper::Correlation;
 use paper::Stream;
 
 // The open number at a place, the oldest first.
-pub fn call_at(img: &[u8], i: usize, k: usize) -> Correlation
+pub fn number_at(img: &[u8], i: usize, k: usize) -> Correlation
     requires { ⌜ (i < 16) × (length (now img) ≡ 760) × Lent (now img) × (k < length (waiting (tableOf (now img)) i)) ⌝ }
     ensures { λ r. ⌜ r ≡ record { 0 = getD (waiting (tableOf (now (img .entry))) i) k 0 } ⌝ }
 {
@@ -22,14 +22,14 @@ pub fn call_at(img: &[u8], i: usize, k: usize) -> Correlation
 }
 
 // The first place of a number among a stream's open ones, or their count where it is not open.
-fn place_of(img: &[u8], i: usize, n: Correlation) -> usize
+fn number_place(img: &[u8], i: usize, n: Correlation) -> usize
     requires { ⌜ (i < 16) × (length (now img) ≡ 760) × Lent (now img) ⌝ }
     ensures { λ r. ⌜ r ≡ firstOf (eqb (n .0)) (waiting (tableOf (now (img .entry))) i) ⌝ }
 {
     let count = image::count_at(img, i) as usize;
     let mut k: usize = 0;
     while k < count {
-        let c = call_at(img, i, k);
+        let c = number_at(img, i, k);
         if n.0 == c.0 {
             return k;
         }
@@ -44,7 +44,7 @@ pub fn is_waiting(img: &[u8], i: usize, n: Correlation) -> bool
     ensures { λ r. ⌜ r ≡ has (n .0) (waiting (tableOf (now (img .entry))) i) ⌝ }
 {
     let count = image::count_at(img, i) as usize;
-    place_of(img, i, n) < count
+    number_place(img, i, n) < count
 }
 
 // How many numbers stay open on a stream without one of them.
@@ -68,7 +68,7 @@ fn occurs_on(img: &[u8], i: usize, n: u32) -> u32
     let mut total: u32 = 0;
     let mut k: usize = 0;
     while k < count {
-        let c = call_at(img, i, k);
+        let c = number_at(img, i, k);
         if n == c.0 {
             total += 1;
         }
@@ -92,14 +92,14 @@ fn occurrences(img: &[u8], n: u32) -> u32
 }
 
 // A stream's open numbers over others, from a place on.
-fn copy_calls(img: &[u8], i: usize, dst: &mut [u32], at: usize)
+fn copy_numbers(img: &[u8], i: usize, dst: &mut [u32], at: usize)
     requires { ⌜ (i < 16) × (length (now img) ≡ 760) × Lent (now img) × (at + length (waiting (tableOf (now img)) i) ≤ length (now dst)) ⌝ }
     ensures { λ _. ⌜ now (dst .exit) ≡ paste (now (dst .entry)) at (waiting (tableOf (now (img .entry))) i) ⌝ }
 {
     let count = image::count_at(img, i) as usize;
     let mut k: usize = 0;
     while k < count {
-        let c = call_at(img, i, k);
+        let c = number_at(img, i, k);
         dst[at + k] = c.0;
         k += 1;
     }
@@ -114,7 +114,7 @@ pub fn open_numbers(img: &[u8], dst: &mut [u32]) -> usize
     let mut total: usize = 0;
     let mut i: usize = 0;
     while i < 16 {
-        copy_calls(img, i, dst, total);
+        copy_numbers(img, i, dst, total);
         total += image::count_at(img, i) as usize;
         i += 1;
     }
@@ -161,7 +161,7 @@ fn numbers_of(img: &[u8], i: usize) -> [u8; 33]
 }
 
 // Those bytes with one number more behind the others.
-fn one_more(img: &[u8], i: usize, n: u32) -> [u8; 33]
+fn one_number_more(img: &[u8], i: usize, n: u32) -> [u8; 33]
     requires { ⌜ (i < 16) × (length (now img) ≡ 760) × Lent (now img) × (length (waiting (tableOf (now img)) i) < 8) ⌝ }
     ensures { λ r. ⌜ r ≡ waitingBytes (waiting (tableOf (now (img .entry))) i ++ (n ∷ [])) ⌝ }
 {
@@ -173,7 +173,7 @@ fn one_more(img: &[u8], i: usize, n: u32) -> [u8; 33]
 }
 
 // Those bytes without the number at a place: the later ones move down.
-fn one_less(img: &[u8], i: usize, k: usize) -> [u8; 33]
+fn one_number_less(img: &[u8], i: usize, k: usize) -> [u8; 33]
     requires { ⌜ (i < 16) × (length (now img) ≡ 760) × Lent (now img) × (k < length (waiting (tableOf (now img)) i)) ⌝ }
     ensures { λ r. ⌜ r ≡ waitingBytes (take k (waiting (tableOf (now (img .entry))) i) ++ drop (suc k) (waiting (tableOf (now (img .entry))) i)) ⌝ }
 {
@@ -188,7 +188,7 @@ fn one_less(img: &[u8], i: usize, k: usize) -> [u8; 33]
 }
 
 // A stream's slot is written anew: how the stream stands, and the bytes of its open numbers.
-fn put_calls(img: &mut [u8], i: usize, s: Stream, bytes: [u8; 33])
+fn put_slot(img: &mut [u8], i: usize, s: Stream, bytes: [u8; 33])
     requires { ⌜ (i < 16) × (length (now img) ≡ 760) ⌝ }
     ensures { λ _. ⌜ now (img .exit) ≡ paste (now (img .entry)) (slotBase i) (streamBytes s ++ bytes) ⌝ }
 {
@@ -199,24 +199,24 @@ fn put_calls(img: &mut [u8], i: usize, s: Stream, bytes: [u8; 33])
 }
 
 // A stream stands anew, with one open number more.
-pub fn add_call(img: &mut [u8], i: usize, s: Stream, n: Correlation)
+pub fn add_number(img: &mut [u8], i: usize, s: Stream, n: Correlation)
     requires { ⌜ (i < 16) × (length (now img) ≡ 760) × Lent (now img) × (length (waiting (tableOf (now img)) i) < 8) ⌝ }
-    ensures { λ _. ⌜ now (img .exit) ≡ imageOf (withCalls (tableOf (now (img .entry))) i s (waiting (tableOf (now (img .entry))) i ++ (n .0 ∷ []))) ⌝ }
+    ensures { λ _. ⌜ now (img .exit) ≡ imageOf (withNumbers (tableOf (now (img .entry))) i s (waiting (tableOf (now (img .entry))) i ++ (n .0 ∷ []))) ⌝ }
 {
-    let bytes = one_more(img, i, n.0);
-    put_calls(img, i, s, bytes);
+    let bytes = one_number_more(img, i, n.0);
+    put_slot(img, i, s, bytes);
 }
 
 // A stream stands anew, without one of its open numbers; with all of them where that one is not open.
-pub fn remove_call(img: &mut [u8], i: usize, s: Stream, n: Correlation)
+pub fn remove_number(img: &mut [u8], i: usize, s: Stream, n: Correlation)
     requires { ⌜ (i < 16) × (length (now img) ≡ 760) × Lent (now img) ⌝ }
-    ensures { λ _. ⌜ now (img .exit) ≡ imageOf (withCalls (tableOf (now (img .entry))) i s (without (n .0) (waiting (tableOf (now (img .entry))) i))) ⌝ }
+    ensures { λ _. ⌜ now (img .exit) ≡ imageOf (withNumbers (tableOf (now (img .entry))) i s (without (n .0) (waiting (tableOf (now (img .entry))) i))) ⌝ }
 {
     let count = image::count_at(img, i) as usize;
-    let k = place_of(img, i, n);
+    let k = number_place(img, i, n);
     if k < count {
-        let bytes = one_less(img, i, k);
-        put_calls(img, i, s, bytes);
+        let bytes = one_number_less(img, i, k);
+        put_slot(img, i, s, bytes);
         return;
     }
     image::store_stream(img, i, s);

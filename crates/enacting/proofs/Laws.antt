@@ -16,7 +16,7 @@ use Rattle.ledger.proofs.Tallies.{length-without-le, picked}
 use Rattle.octets.specs.Runs.{part, over}
 use Rattle.paper.proofs.LineOrder as the-order
 use Rattle.paper.proofs.Reply as the-reply
-use Rattle.paper.specs.Base.{isAmong, toldStates, settled, Slot, Table, waiting, withSlot, withCalls, withStream, withCounter}
+use Rattle.paper.specs.Base.{isAmong, toldStates, settled, Slot, Table, waiting, withSlot, withNumbers, withStream, withCounter}
 use Rattle.paper.specs.Correlations.{onePast}
 use Rattle.paper.specs.RecordsIn.{calledIn, callingIn}
 use Rattle.paper.specs.RecordsOut.{Record, up, bytesOf}
@@ -63,7 +63,7 @@ module _ (t : Table) (k : Shaped t) where
 
   -- past the table's end there is no stream that carries
   pub none-past : (c : ℕ) (s : Stream) → 16 ≤ c → withStream t c s ≡ t
-  unfolding withStream withCalls withSlot
+  unfolding withStream withNumbers withSlot
   none-past c s h =
       ap (λ (l : List Slot). record { remembers = t .remembers; counter = t .counter; ppas = t .ppas; slots = l })
       (set-out (t .slots) c _ (omega (arith, k .sixteen)))

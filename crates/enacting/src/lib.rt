@@ -27,25 +27,25 @@ use paper::Telling;
 // ---- the table
 
 // A stream takes one more open indication, and the counter stands one past its number.
-fn take_call(img: &mut [u8], i: u8, s: Stream, n: Correlation)
+fn take_indication(img: &mut [u8], i: u8, s: Stream, n: Correlation)
     requires { ⌜ (i < 16) × (length (now img) ≡ 760) × Lent (now img) × (length (waiting (tableOf (now img)) i) < 8) ⌝ }
     ensures { λ _. ⌜ now (img .exit) ≡ imageOf (changed (tableOf (now (img .entry))) i (Change.Takes s n)) ⌝ }
 {
     image::store_counter(img, std::num::wrapping_add_u32(n.0, 1));
-    calls::add_call(img, i as usize, s, n);
+    calls::add_number(img, i as usize, s, n);
 }
 
 // A stream loses an open indication, and goes to another state where it was the last.
-fn lose_call(img: &mut [u8], i: u8, s: Stream, n: Correlation, last: State)
+fn lose_indication(img: &mut [u8], i: u8, s: Stream, n: Correlation, last: State)
     requires { ⌜ (i < 16) × (length (now img) ≡ 760) × Lent (now img) ⌝ }
     ensures { λ _. ⌜ now (img .exit) ≡ imageOf (changed (tableOf (now (img .entry))) i (Change.Loses s n last)) ⌝ }
 {
     let at = i as usize;
     if calls::remaining(img, at, n) == 0 {
-        calls::remove_call(img, at, rules::settled(last, s), n);
+        calls::remove_number(img, at, rules::settled(last, s), n);
         return;
     }
-    calls::remove_call(img, at, s, n);
+    calls::remove_number(img, at, s, n);
 }
 
 // What becomes of a stream.
@@ -56,8 +56,8 @@ fn change_stream(img: &mut [u8], i: u8, change: Change)
     match change {
         Change::Stays => {}
         Change::Becomes(s) => image::store_stream(img, i as usize, s),
-        Change::Takes(s, n) => take_call(img, i, s, n),
-        Change::Loses(s, n, last) => lose_call(img, i, s, n, last),
+        Change::Takes(s, n) => take_indication(img, i, s, n),
+        Change::Loses(s, n, last) => lose_indication(img, i, s, n, last),
     }
 }
 
@@ -90,7 +90,7 @@ fn named_by(i: u8, c: u8, o: LineOrder) -> u8
 
 // An order to the line. The address of a connect is handed on as that part of the message. (No order reads the stream's
 // own slot.)
-fn put_order(room: &mut [u8], i: u8, c: u8, m: &[u8], o: LineOrder) -> usize
+fn put_named_order(room: &mut [u8], i: u8, c: u8, m: &[u8], o: LineOrder) -> usize
     requires { ⌜ 10 ≤ length (now room) ⌝ }
     ensures { λ n. ⌜ (n ≤ 10) × ((own : Slot) → Written (order (namedBy i c o) o (behindOrder own (now (m .entry)) o) ∷ []) n (now (room .entry)) (now (room .exit))) ⌝ }
 {
@@ -108,7 +108,7 @@ fn put_orders(room: &mut [u8], i: u8, c: u8, m: &[u8], telling: Telling) -> usiz
 {
     match telling {
         Telling::Untold => 0,
-        Telling::Tells(o) => put_order(room, i, c, m, o),
+        Telling::Tells(o) => put_named_order(room, i, c, m, o),
     }
 }
 
@@ -123,7 +123,7 @@ fn mac_at(img: &[u8], i: u8) -> [u8; 6]
 
 // A message up. INFO_ACK and BIND_ACK end in the stream's address, CONNECT_IND and CONNECT_CON in what the event's record
 // brings.
-fn put_up(img: &[u8], room: &mut [u8], i: u8, m: &[u8], reply: Reply) -> usize
+fn put_reply(img: &[u8], room: &mut [u8], i: u8, m: &[u8], reply: Reply) -> usize
     requires { ⌜ (i < 16) × (length (now img) ≡ 760) × Lent (now img) × (99 ≤ length (now room)) ⌝ }
     ensures { λ n. ⌜ (n ≡ 99) × (now (room .exit) ≡ over (bytesOf (up i reply (behindReply (macAt (tableOf (now (img .entry))) i) (now (m .entry)) reply))) (now (room .entry))) ⌝ }
 {
@@ -143,13 +143,13 @@ fn put_up(img: &[u8], room: &mut [u8], i: u8, m: &[u8], reply: Reply) -> usize
 }
 
 // What the stream's user is told.
-fn put_ups(img: &[u8], room: &mut [u8], i: u8, m: &[u8], saying: Saying) -> usize
+fn put_replies(img: &[u8], room: &mut [u8], i: u8, m: &[u8], saying: Saying) -> usize
     requires { ⌜ (i < 16) × (length (now img) ≡ 760) × Lent (now img) × (99 ≤ length (now room)) ⌝ }
     ensures { λ n. ⌜ (n ≤ 99) × Written (upsIn i (macAt (tableOf (now (img .entry))) i) (now (m .entry)) saying) n (now (room .entry)) (now (room .exit)) ⌝ }
 {
     match saying {
         Saying::Unsaid => 0,
-        Saying::Says(reply) => put_up(img, room, i, m, reply),
+        Saying::Says(reply) => put_reply(img, room, i, m, reply),
     }
 }
 
@@ -162,7 +162,7 @@ fn put_records(img: &[u8], room: &mut [u8], i: u8, c: u8, m: &[u8], e: Effect) -
     let saying = e.up;
     let a = put_orders(room, i, c, m, telling);
     let b = a + replies::put_flush_if(&mut room[a..], e.flush, i);
-    b + put_ups(img, &mut room[b..], i, m, saying)
+    b + put_replies(img, &mut room[b..], i, m, saying)
 }
 
 // ---- the call

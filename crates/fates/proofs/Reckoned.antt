@@ -14,7 +14,7 @@ use Rattle.register.specs.Register.{blank, placeOf, openOn, enteredAll}
 use Rattle.register.proofs.Kept.{fine-front, kept-openings, kept-counts, kept-open, kept-all-openings, kept-all-counts, found-place, found-number}
 use Rattle.register.proofs.Places.{asked}
 use Rattle.register.proofs.Whole.{over-same}
-use Rattle.report.specs.Report.{spaced, numbers, wordOf, wordCall, wordOpening, wordTotal, callLine, openingLine, openOnAll, totalLine}
+use Rattle.report.specs.Report.{spacedNumber, numbers, wordOf, wordCall, wordOpening, wordTotal, indicationLine, openingLine, openOnAll, totalLine}
 use Rattle.promises.specs.History.{Answered, lines, fates, indicated, accepted, denied, withdrawn, dropped}
 use Rattle.promises.specs.Harness.{Harness, heardIn}
 use Rattle.promises.proofs.Harness.{agreed, fair-heard}
@@ -24,30 +24,30 @@ use Rattle.fates.specs.Shown.{openingShown, callShown, totalOf, totalSho
 -- ---- numbers of the register, one behind the other
 
 -- behind p, the cell c holds v, and the others go on from d
-next : (p : List ℕ) (k c d v : ℕ) (l : List ℕ) → getD l c 0 ≡ v → c + 1 ≡ d → p ++ numbers (suc k) c l ≡ p ++ spaced v ++ numbers k d l
+next : (p : List ℕ) (k c d v : ℕ) (l : List ℕ) → getD l c 0 ≡ v → c + 1 ≡ d → p ++ numbers (suc k) c l ≡ p ++ spacedNumber v ++ numbers k d l
 unfolding numbers
 next p k c d v l e f =
-    sym (append-assoc p (spaced (getD l c 0)) (numbers k (c + 1) l))
-    ∙ ap (λ (n : ℕ). p ++ spaced n ++ numbers k (c + 1) l) e
-    ∙ ap (λ (d : ℕ). p ++ spaced v ++ numbers k d l) f
+    sym (append-assoc p (spacedNumber (getD l c 0)) (numbers k (c + 1) l))
+    ∙ ap (λ (n : ℕ). p ++ spacedNumber n ++ numbers k (c + 1) l) e
+    ∙ ap (λ (d : ℕ). p ++ spacedNumber v ++ numbers k d l) f
 
-one-number : (p : List ℕ) (c v : ℕ) (l : List ℕ) → getD l c 0 ≡ v → p ++ numbers 1 c l ≡ p ++ spaced v
+one-number : (p : List ℕ) (c v : ℕ) (l : List ℕ) → getD l c 0 ≡ v → p ++ numbers 1 c l ≡ p ++ spacedNumber v
 unfolding numbers
-one-number p c v l e = next p 0 c (c + 1) v l e refl ∙ append-nil (p ++ spaced v)
+one-number p c v l e = next p 0 c (c + 1) v l e refl ∙ append-nil (p ++ spacedNumber v)
 
-two-numbers : (p : List ℕ) (c v w : ℕ) (l : List ℕ) → getD l c 0 ≡ v → getD l (c + 1) 0 ≡ w → p ++ numbers 2 c l ≡ p ++ spaced v ++ spaced w
-two-numbers p c v w l e f = next p 1 c (c + 1) v l e refl ∙ one-number (p ++ spaced v) (c + 1) w l f
+two-numbers : (p : List ℕ) (c v w : ℕ) (l : List ℕ) → getD l c 0 ≡ v → getD l (c + 1) 0 ≡ w → p ++ numbers 2 c l ≡ p ++ spacedNumber v ++ spacedNumber w
+two-numbers p c v w l e f = next p 1 c (c + 1) v l e refl ∙ one-number (p ++ spacedNumber v) (c + 1) w l f
 
 -- six, as they stand on a page
 six-numbers : (p : List ℕ) (c v : ℕ) (f : ℕ → ℕ) (l : List ℕ) → getD l c 0 ≡ v → ((k : ℕ) → k < 5 → getD l (c + 1 + k) 0 ≡ f k)
-    → p ++ numbers 6 c l ≡ p ++ spaced v ++ spaced (f 0) ++ spaced (f 1) ++ spaced (f 2) ++ spaced (f 3) ++ spaced (f 4)
+    → p ++ numbers 6 c l ≡ p ++ spacedNumber v ++ spacedNumber (f 0) ++ spacedNumber (f 1) ++ spacedNumber (f 2) ++ spacedNumber (f 3) ++ spacedNumber (f 4)
 six-numbers p c v f l e g =
     next p 5 c (c + 1 + 0) v l e (omega arith)
-    ∙ next (p ++ spaced v) 4 (c + 1 + 0) (c + 1 + 1) (f 0) l (g 0 (omega arith)) (omega arith)
-    ∙ next (p ++ spaced v ++ spaced (f 0)) 3 (c + 1 + 1) (c + 1 + 2) (f 1) l (g 1 (omega arith)) (omega arith)
-    ∙ next (p ++ spaced v ++ spaced (f 0) ++ spaced (f 1)) 2 (c + 1 + 2) (c + 1 + 3) (f 2) l (g 2 (omega arith)) (omega arith)
-    ∙ next (p ++ spaced v ++ spaced (f 0) ++ spaced (f 1) ++ spaced (f 2)) 1 (c + 1 + 3) (c + 1 + 4) (f 3) l (g 3 (omega arith)) (omega arith)
-    ∙ one-number (p ++ spaced v ++ spaced (f 0) ++ spaced (f 1) ++ spaced (f 2) ++ spaced (f 3)) (c + 1 + 4) (f 4) l (g 4 (omega arith))
+    ∙ next (p ++ spacedNumber v) 4 (c + 1 + 0) (c + 1 + 1) (f 0) l (g 0 (omega arith)) (omega arith)
+    ∙ next (p ++ spacedNumber v ++ spacedNumber (f 0)) 3 (c + 1 + 1) (c + 1 + 2) (f 1) l (g 1 (omega arith)) (omega arith)
+    ∙ next (p ++ spacedNumber v ++ spacedNumber (f 0) ++ spacedNumber (f 1)) 2 (c + 1 + 2) (c + 1 + 3) (f 2) l (g 2 (omega arith)) (omega arith)
+    ∙ next (p ++ spacedNumber v ++ spacedNumber (f 0) ++ spacedNumber (f 1) ++ spacedNumber (f 2)) 1 (c + 1 + 3) (c + 1 + 4) (f 3) l (g 3 (omega arith)) (omega arith)
+    ∙ one-number (p ++ spacedNumber v ++ spacedNumber (f 0) ++ spacedNumber (f 1) ++ spacedNumber (f 2) ++ spacedNumber (f 3)) (c + 1 + 4) (f 4) l (g 4 (omega arith))
 
 -- ---- the lines, of a history of fewer lines than 64 bits count
 
@@ -86,11 +86,11 @@ module _ (img register : List ℕ) (w : Told img register) (short : length (line
   pub opening-told : (s : ℕ) → s < 16 → openingLine s register ≡ openingShown s h
   unfolding openingShown
   opening-told s m =
-      ap (λ (l : List ℕ). l ++ spaced (openOn s register) ++ (10 ∷ []))
-      (six-numbers (wordOpening ++ spaced s) (s * 24) (length (fates s h)) (λ k. getD (tallies k s (lines h) []) 0 0) register
+      ap (λ (l : List ℕ). l ++ spacedNumber (openOn s register) ++ (10 ∷ []))
+      (six-numbers (wordOpening ++ spacedNumber s) (s * 24) (length (fates s h)) (λ k. getD (tallies k s (lines h) []) 0 0) register
       (ap (λ (l : List ℕ). getD l (s * 24) 0) (w .entered) ∙ kept-openings (lines h) fine short s m)
       (λ k b. ap (λ (l : List ℕ). getD l (s * 24 + 1 + k) 0) (w .entered) ∙ kept-counts (lines h) fine short s k m b))
-      ∙ ap (λ (n : ℕ). wordOpening ++ spaced s ++ spaced (length (fates s h)) ++ spaced (indicated s 0 h) ++ spaced (accepted s 0 h) ++ spaced (denied s 0 h) ++ spaced (withdrawn s 0 h) ++ spaced (dropped s 0 h) ++ spaced n ++ (10 ∷ []))
+      ∙ ap (λ (n : ℕ). wordOpening ++ spacedNumber s ++ spacedNumber (length (fates s h)) ++ spacedNumber (indicated s 0 h) ++ spacedNumber (accepted s 0 h) ++ spacedNumber (denied s 0 h) ++ spacedNumber (withdrawn s 0 h) ++ spacedNumber (dropped s 0 h) ++ spacedNumber n ++ (10 ∷ []))
       (open-is s m ∙ ap openCount (sym (newest-first (fates s h))))
 
   open-all : openOnAll 16 0 register ≡ overStreams 16 (λ s. sumOf openCount (fates s h))
@@ -101,24 +101,24 @@ module _ (img register : List ℕ) (w : Told img register) (short : length (line
   pub total-told : totalLine register ≡ totalShown h
   unfolding totalShown
   total-told =
-      ap (λ (l : List ℕ). l ++ spaced (openOnAll 16 0 register) ++ (10 ∷ []))
+      ap (λ (l : List ℕ). l ++ spacedNumber (openOnAll 16 0 register) ++ (10 ∷ []))
       (six-numbers wordTotal 384 (overStreams 16 (λ s. length (fates s h))) (λ k. totalOf k h) register
       (ap (λ (l : List ℕ). getD l 384 0) (w .entered) ∙ kept-all-openings (lines h) fine short)
       (λ k b. ap (λ (l : List ℕ). getD l (385 + k) 0) (w .entered) ∙ kept-all-counts (lines h) fine short k b))
-      ∙ ap (λ (n : ℕ). wordTotal ++ spaced (overStreams 16 (λ s. length (fates s h))) ++ spaced (totalOf 0 h) ++ spaced (totalOf 1 h) ++ spaced (totalOf 2 h) ++ spaced (totalOf 3 h) ++ spaced (totalOf 4 h) ++ spaced n ++ (10 ∷ [])) open-all
+      ∙ ap (λ (n : ℕ). wordTotal ++ spacedNumber (overStreams 16 (λ s. length (fates s h))) ++ spacedNumber (totalOf 0 h) ++ spacedNumber (totalOf 1 h) ++ spacedNumber (totalOf 2 h) ++ spacedNumber (totalOf 3 h) ++ spacedNumber (totalOf 4 h) ++ spacedNumber n ++ (10 ∷ [])) open-all
 
 -- ---- the line of a call, at any line of a history
 
 -- The line of a call that ends shows the place and the number of that very call: xs are the lines up to there.
 pub call-told : (x : Harness) (xs ys : List Line) → lines (heardIn x) ≡ xs ++ ys → length xs < 18446744073709551615
     → (s n : ℕ) (e : End) → s < 16 → has n (openOf (newest (posts s xs []))) ≡ true
-    → callLine s (placeOf s n (enteredAll xs blank)) (wordOf e) (enteredAll xs blank) ≡ callShown s n e (posts s xs [])
+    → indicationLine s (placeOf s n (enteredAll xs blank)) (wordOf e) (enteredAll xs blank) ≡ callShown s n e (posts s xs [])
 unfolding callShown
 call-told x xs ys q short s n e m f =
     ap (λ (l : List ℕ). l ++ numbers 2 (placeOf s n (enteredAll xs blank)) (enteredAll xs blank) ++ wordOf e ++ (10 ∷ []))
-    (one-number (wordCall ++ spaced s) (s * 24) (length (posts s xs [])) (enteredAll xs blank) (kept-openings xs fine short s m))
+    (one-number (wordCall ++ spacedNumber s) (s * 24) (length (posts s xs [])) (enteredAll xs blank) (kept-openings xs fine short s m))
     ∙ ap (λ (l : List ℕ). l ++ wordOf e ++ (10 ∷ []))
-    (two-numbers (wordCall ++ spaced s ++ spaced (length (posts s xs []))) (placeOf s n (enteredAll xs blank)) (suc (firstOf (asked n) (newest (posts s xs [])))) n (enteredAll xs blank)
+    (two-numbers (wordCall ++ spacedNumber s ++ spacedNumber (length (posts s xs []))) (placeOf s n (enteredAll xs blank)) (suc (firstOf (asked n) (newest (posts s xs [])))) n (enteredAll xs blank)
     (found-place xs fine short s n m f) (found-number xs fine short s n m f))
   where
     fine : (s : ℕ) → s < 16 → (fairs s xs [] ≡ true) × (rooteds s xs 0 ≡ true)

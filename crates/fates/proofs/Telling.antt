@@ -10,7 +10,7 @@ use Rattle.ledger.specs.Choice.{_⇒_∣_}
 use Rattle.ledger.proofs.Tallies.{at-all}
 use Rattle.paper.specs.Base.{fresh}
 use Rattle.image.specs.Layout.{imageOf, soundImage}
-use Rattle.outcomes.specs.Leaving.{made}
+use Rattle.outcomes.specs.Leaving.{callMade}
 use Rattle.outcomes.specs.Fresh.{freshOf}
 use Rattle.book.specs.declared.Line.{Line}
 use Rattle.register.specs.Register.{blank, entered, enteredAll}
@@ -26,7 +26,7 @@ unfolding enteredAll
 entered-append [] ys l = refl
 entered-append (x ∷ xs) ys l = entered-append xs ys (entered x l)
 
-pub told-next : (img register r : List ℕ) → Told img register → Bytes r → Told (made img r .image) (enteredAll (linesBy r (made img r)) register)
+pub told-next : (img register r : List ℕ) → Told img register → Bytes r → Told (callMade img r .image) (enteredAll (linesBy r (callMade img r)) register)
 told-next img register r w b =
     let x : Harness = w .harness in
     let c : Lending = record { bytes = r; areBytes = at-all (λ (n : ℕ). ltb n 256) 0 r (λ i. lt-ltb _ _ (b i)); room = replicate 128 0 } in

@@ -8,22 +8,22 @@ use lib.Dec.{eqb}
 use Rattle.book.specs.declared.End.{End}
 use Rattle.book.specs.declared.End.the-variants.{Accepted, Denied, Withdrawn, Dropped}
 use Rattle.book.specs.Book.{Indication, Opening, isStillOpen, openCount, newest, countOf, tallies, overStreams}
-use Rattle.report.specs.Report.{wordCall, wordOpening, wordTotal, wordOf, spaced}
+use Rattle.report.specs.Report.{wordCall, wordOpening, wordTotal, wordOf, spacedNumber}
 use Rattle.promises.specs.History.{Answered, lines, fates, indicated, accepted, denied, withdrawn, dropped, leftOpenIn}
 
 -- an opening's line: which opening of its stream, and its counts
 unfoldable pub openingShown : ℕ → List Answered → List ℕ
 openingShown s h =
-    wordOpening ++ spaced s ++ spaced (length (fates s h))
-    ++ spaced (indicated s 0 h) ++ spaced (accepted s 0 h) ++ spaced (denied s 0 h) ++ spaced (withdrawn s 0 h) ++ spaced (dropped s 0 h)
-    ++ spaced (leftOpenIn s 0 h) ++ (10 ∷ [])
+    wordOpening ++ spacedNumber s ++ spacedNumber (length (fates s h))
+    ++ spacedNumber (indicated s 0 h) ++ spacedNumber (accepted s 0 h) ++ spacedNumber (denied s 0 h) ++ spacedNumber (withdrawn s 0 h) ++ spacedNumber (dropped s 0 h)
+    ++ spacedNumber (leftOpenIn s 0 h) ++ (10 ∷ [])
 
 -- the line of a call that ends, where stream s has these openings: of the newest one's still open calls with this number, the
 -- oldest
 unfoldable pub callShown : ℕ → ℕ → End → List Opening → List ℕ
 callShown s n e b =
-    wordCall ++ spaced s ++ spaced (length b)
-    ++ spaced (suc (firstOf (λ (x : Indication). both (isStillOpen (x .fate)) (eqb n (x .number))) (newest b))) ++ spaced n
+    wordCall ++ spacedNumber s ++ spacedNumber (length b)
+    ++ spacedNumber (suc (firstOf (λ (x : Indication). both (isStillOpen (x .fate)) (eqb n (x .number))) (newest b))) ++ spacedNumber n
     ++ wordOf e ++ (10 ∷ [])
 
 -- count k over all openings of all streams
@@ -33,8 +33,8 @@ totalOf k h = overStreams 16 (λ s. sumOf (λ (n : ℕ). n) (tallies k s (lines 
 -- the last line
 unfoldable pub totalShown : List Answered → List ℕ
 totalShown h =
-    wordTotal ++ spaced (overStreams 16 (λ s. length (fates s h)))
-    ++ spaced (totalOf 0 h)
-    ++ spaced (totalOf (countOf Accepted) h) ++ spaced (totalOf (countOf Denied) h)
-    ++ spaced (totalOf (countOf Withdrawn) h) ++ spaced (totalOf (countOf Dropped) h)
-    ++ spaced (overStreams 16 (λ s. sumOf openCount (fates s h))) ++ (10 ∷ [])
+    wordTotal ++ spacedNumber (overStreams 16 (λ s. length (fates s h)))
+    ++ spacedNumber (totalOf 0 h)
+    ++ spacedNumber (totalOf (countOf Accepted) h) ++ spacedNumber (totalOf (countOf Denied) h)
+    ++ spacedNumber (totalOf (countOf Withdrawn) h) ++ spacedNumber (totalOf (countOf Dropped) h)
+    ++ spacedNumber (overStreams 16 (λ s. sumOf openCount (fates s h))) ++ (10 ∷ [])

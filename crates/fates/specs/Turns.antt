@@ -5,7 +5,7 @@ use mathlib.Core.List.{List}
 use lib.ListN.{length}
 use Rattle.ledger.specs.Choice.{_⇒_∣_}
 use Rattle.octets.specs.Runs.{paste}
-use Rattle.outcomes.specs.Leaving.{Left, made}
+use Rattle.outcomes.specs.Leaving.{Left, callMade}
 use Rattle.book.specs.declared.Line.{Line}
 use Rattle.register.specs.Register.{enteredAll}
 use Rattle.report.specs.Report.{allText}
@@ -15,7 +15,7 @@ use Rattle.fates.specs.Told.{linesBy}
 
 -- The call is lent what is not read yet; its lines are entered, and their text goes behind what is printed already.
 abbrev pub callOn : List ℕ → List ℕ → Turn → Left
-callOn table input t = made table (unread input t)
+callOn table input t = callMade table (unread input t)
 
 abbrev pub linesOn : List ℕ → List ℕ → Turn → List Line
 linesOn table input t = linesBy (unread input t) (callOn table input t)

@@ -6,13 +6,13 @@ ghost use Rattle.octets.specs.Runs.{paste};
 ghost use Rattle.register.specs.Register.{enteredAll};
 ghost use Rattle.report.specs.Report.{allText};
 ghost use Rattle.turns.specs.Turns.{Fine, Ready};
-ghost use Rattle.outcomes.specs.Leaving.{made};
+ghost use Rattle.outcomes.specs.Leaving.{callMade};
 ghost use Rattle.fates.specs.Told.{Told, linesBy};
 ghost use Rattle.fates.specs.Turns.{callOn, linesOn, textOn, called, turnAfter, tableAfter, registerAfter, outputAfter};
 use turns::Turn;
 
 // One call: its lines are entered in the register, and their text goes to the output from a place on.
-fn tell_call(
+fn call_and_tell(
     table: &mut [u8],
     register: &mut [u64],
     bytes: &[u8],
@@ -20,9 +20,9 @@ fn tell_call(
     at: usize,
 ) -> usize
     requires { ⌜ Told (now table) (now register) × (length (now register) ≡ 408) × (at + 20000 ≤ length (now out)) ⌝ }
-    ensures { λ r. ⌜ Told (now (table .exit)) (now (register .exit)) × (now (table .exit) ≡ made (now (table .entry)) (now (bytes .entry)) .image) × (now (register .exit) ≡ enteredAll (linesBy (now (bytes .entry)) (made (now (table .entry)) (now (bytes .entry)))) (now (register .entry))) ⌝ }
-    ensures { λ r. ⌜ now (out .exit) ≡ paste (now (out .entry)) at (allText (linesBy (now (bytes .entry)) (made (now (table .entry)) (now (bytes .entry)))) (now (register .entry))) ⌝ }
-    ensures { λ r. ⌜ (r ≡ at + length (allText (linesBy (now (bytes .entry)) (made (now (table .entry)) (now (bytes .entry)))) (now (register .entry)))) × (r ≤ at + 20000) ⌝ }
+    ensures { λ r. ⌜ Told (now (table .exit)) (now (register .exit)) × (now (table .exit) ≡ callMade (now (table .entry)) (now (bytes .entry)) .image) × (now (register .exit) ≡ enteredAll (linesBy (now (bytes .entry)) (callMade (now (table .entry)) (now (bytes .entry)))) (now (register .entry))) ⌝ }
+    ensures { λ r. ⌜ now (out .exit) ≡ paste (now (out .entry)) at (allText (linesBy (now (bytes .entry)) (callMade (now (table .entry)) (now (bytes .entry)))) (now (register .entry))) ⌝ }
+    ensures { λ r. ⌜ (r ≡ at + length (allText (linesBy (now (bytes .entry)) (callMade (now (table .entry)) (now (bytes .entry)))) (now (register .entry)))) × (r ≤ at + 20000) ⌝ }
 {
     let mut room = [0u8; 128];
     let answer = engine::call_sound(table, bytes, &mut room);
@@ -38,7 +38,7 @@ fn called(table: &mut [u8], register: &mut [u64], input: &[u8], output: &mut [u8
 {
     let start = t.start;
     let end = t.end;
-    let filled = tell_call(table, register, &input[start..end], output, t.filled);
+    let filled = call_and_tell(table, register, &input[start..end], output, t.filled);
     turns::after_call(input, filled, false, t)
 }
 
@@ -111,7 +111,7 @@ fn main() {
     let mut register = [0u64; 408];
     let mut input = io::large_buffer();
     let mut output = io::large_buffer();
-    let title = report::put_title(&mut output, 0);
+    let title = report::put_heading(&mut output, 0);
     let first = turns::first_turn(title);
     let last = run(&mut table, &mut register, &mut input, &mut output, first);
     let d = turns::drained(&output, last);

@@ -6,7 +6,7 @@ use mathlib.Core.List.{List, [], _∷_}
 use lib.ListN.{length, getD, length-append, length-set}
 use Rattle.octets.specs.Blocks.{flat}
 use Rattle.octets.proofs.Laws.{flat-length}
-use Rattle.paper.specs.Base.{Slot, Table, slot, waiting, closed, justOpened, noPpa, withSlot, withStream, withCalls, withCounter, withPpa, remembering}
+use Rattle.paper.specs.Base.{Slot, Table, slot, waiting, closed, justOpened, noPpa, withSlot, withStream, withNumbers, withCounter, withPpa, remembering}
 use Rattle.paper.specs.declared.Stream.{Stream}
 use Rattle.paper.specs.declared.Ppa.{Ppa}
 use Rattle.image.specs.Layout.{joined, ppaBytes, streamBytes, waitingBytes, slotBytes, headerBytes, imageOf}
@@ -65,8 +65,8 @@ module _ (t : Table) (s : Shaped t) where
   }
 
   -- a stream with its open numbers
-  pub shaped-calls : (i : ℕ) (q : Stream) (w : List ℕ) → length w ≤ 8 → Shaped (withCalls t i q w)
-  unfolding withCalls
+  pub shaped-calls : (i : ℕ) (q : Stream) (w : List ℕ) → length w ≤ 8 → Shaped (withNumbers t i q w)
+  unfolding withNumbers
   shaped-calls i q w h = shaped-slot i (record { isOpen = slot t i .isOpen; stream = q; waiting = w }) h
 
   -- a stream alone

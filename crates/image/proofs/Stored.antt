@@ -8,7 +8,7 @@ use lib.ListN.{length, set, replicate, length-append}
 use Rattle.ledger.specs.Tally.{oneIf}
 use Rattle.octets.specs.Numbers.{be16, be32}
 use Rattle.octets.specs.Runs.{paste}
-use Rattle.paper.specs.Base.{Slot, Table, slot, stream, waiting, closed, justOpened, withSlot, withStream, withCalls, withCounter, withPpa, remembering}
+use Rattle.paper.specs.Base.{Slot, Table, slot, stream, waiting, closed, justOpened, withSlot, withStream, withNumbers, withCounter, withPpa, remembering}
 use Rattle.paper.specs.declared.Stream.{Stream}
 use Rattle.paper.specs.declared.Ppa.{Ppa}
 use Rattle.image.specs.Layout.{ppaBase, slotBase, padTo, joined, maskOf, ppaBytes, streamBytes, waitingBytes, slotBytes, headerBytes, imageOf}
@@ -47,7 +47,7 @@ module _ (t : Table) (s : Shaped t) (i : ℕ) (b : i < 16) where
 
   -- a stream without its open numbers
   pub store-stream : (q : Stream) → paste (imageOf t) (slotBase i) (streamBytes q) ≡ imageOf (withStream t i q)
-  unfolding withStream withCalls
+  unfolding withStream withNumbers
   store-stream q =
       store-front (record { isOpen = slot t i .isOpen; stream = q; waiting = waiting t i })
       (streamBytes (stream t i)) (streamBytes q) (waitingBytes (waiting t i)) refl refl refl
@@ -55,8 +55,8 @@ module _ (t : Table) (s : Shaped t) (i : ℕ) (b : i < 16) where
 
   -- a stream with them
   pub store-calls : (q : Stream) (w : List ℕ) → length w ≤ 8
-      → paste (imageOf t) (slotBase i) (streamBytes q ++ waitingBytes w) ≡ imageOf (withCalls t i q w)
-  unfolding withCalls
+      → paste (imageOf t) (slotBase i) (streamBytes q ++ waitingBytes w) ≡ imageOf (withNumbers t i q w)
+  unfolding withNumbers
   store-calls q w h =
       let x : Slot = record { isOpen = slot t i .isOpen; stream = q; waiting = w } in
       store-front x (slotBytes (slot t i)) (slotBytes x) [] refl (sym (append-nil (slotBytes (slot t i)))) (sym (append-nil (slotBytes x)))

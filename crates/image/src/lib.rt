@@ -209,7 +209,7 @@ pub fn store_counter(img: &mut [u8], n: u32)
 }
 
 // A PPA behind those that are there.
-pub fn add_ppa(img: &mut [u8], p: PpaNumber, mac: &[u8])
+pub fn store_ppa(img: &mut [u8], p: PpaNumber, mac: &[u8])
     requires { ⌜ (length (now img) ≡ 760) × Lent (now img) × (length (now mac) ≡ 6) × (length (tableOf (now img) .ppas) < 8) ⌝ }
     ensures { λ _. ⌜ now (img .exit) ≡ imageOf (withPpa (tableOf (now (img .entry))) (record { number = p; mac = now (mac .entry) })) ⌝ }
 {

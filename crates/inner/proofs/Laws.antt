@@ -10,7 +10,7 @@ use Rattle.ledger.specs.Choice.{_⇒_∣_}
 use Rattle.ledger.specs.Tally.{oneIf}
 use Rattle.ledger.proofs.Tallies.{chosen, skip}
 use Rattle.paper.specs.RecordsIn.{recordSize}
-use Rattle.outcomes.specs.Leaving.{made, isRefused}
+use Rattle.outcomes.specs.Leaving.{callMade, isRefused}
 use Rattle.inner.specs.Run.{Ran, ran, passed, runFrom}
 
 pub passed-some : (bytes : List ℕ) → 0 < length bytes → 0 < passed bytes
@@ -24,7 +24,7 @@ pub record Ahead (capture img : List ℕ) (n at : ℕ) (end : Ran) : Type 0 wher
   pub same : runFrom calls img n (drop at capture) ≡ end
 
 pub ahead-more : (capture img bytes : List ℕ) (n at : ℕ) (end : Ran) → at < length capture → bytes ≡ drop at capture → Ahead capture img n at end
-    → Ahead capture (made img bytes .image) (n + oneIf (isRefused (made img bytes))) (at + passed bytes) end
+    → Ahead capture (callMade img bytes .image) (n + oneIf (isRefused (callMade img bytes))) (at + passed bytes) end
 unfolding runFrom
 ahead-more capture img bytes n at end h b a = go (a .calls) (a .enough) (rw (← b) at (a .same))
   where
@@ -32,13 +32,13 @@ ahead-more capture img bytes n at end h b a = go (a .calls) (a .enough) (rw (←
     size = omega (arith, ap length b, length-drop at capture)
 
     go : (calls : ℕ) → length capture ≤ at + calls → runFrom calls img n bytes ≡ end
-        → Ahead capture (made img bytes .image) (n + oneIf (isRefused (made img bytes))) (at + passed bytes) end
+        → Ahead capture (callMade img bytes .image) (n + oneIf (isRefused (callMade img bytes))) (at + passed bytes) end
     go zero k e = absurd (omega arith)
     go (suc calls) k e = record {
       calls = calls;
       enough = omega (arith, passed-some bytes size);
       same =
-          ap (runFrom calls (made img bytes .image) (n + oneIf (isRefused (made img bytes)))) (sym (drop-drop (passed bytes) at capture) ∙ ap (drop (passed bytes)) (sym b))
+          ap (runFrom calls (callMade img bytes .image) (n + oneIf (isRefused (callMade img bytes)))) (sym (drop-drop (passed bytes) at capture) ∙ ap (drop (passed bytes)) (sym b))
           ∙ sym (skip _ _ _ (ne-eqb (length bytes) 0 (λ z. omega (arith, size)))) ∙ e;
     }
 

@@ -8,7 +8,7 @@ use Rattle.ledger.specs.Tally.{oneIf}
 use Rattle.paper.specs.Base.{fresh}
 use Rattle.paper.specs.RecordsIn.{recordSize}
 use Rattle.image.specs.Layout.{imageOf}
-use Rattle.outcomes.specs.Leaving.{made, isRefused}
+use Rattle.outcomes.specs.Leaving.{callMade, isRefused}
 
 -- The number that a run gives, and the image that it leaves.
 pub record Ran : Type 0 where
@@ -27,7 +27,7 @@ unfoldable pub runFrom : ℕ → List ℕ → ℕ → List ℕ → Ran
 runFrom zero img n bytes = ran n img
 runFrom (suc calls) img n bytes =
     eqb (length bytes) 0 ⇒ ran n img
-    ∣ runFrom calls (made img bytes .image) (n + oneIf (isRefused (made img bytes))) (drop (passed bytes) bytes)
+    ∣ runFrom calls (callMade img bytes .image) (n + oneIf (isRefused (callMade img bytes))) (drop (passed bytes) bytes)
 
 -- The number that says that the lent table has not the size of one.
 abbrev pub noTable : ℕ

@@ -5,7 +5,7 @@ ghost use mathlib.Core.Bool.{true};
 ghost use Prim.Native.Nat.{_<_, _≤_};
 ghost use lib.ListN.{length};
 ghost use Rattle.image.specs.Layout.{soundImage};
-ghost use Rattle.outcomes.specs.Leaving.{made, isRefused};
+ghost use Rattle.outcomes.specs.Leaving.{callMade, isRefused};
 ghost use Rattle.inner.specs.Run.{ran, passed, runFrom, runOf};
 
 const NO_TABLE: u64 = 0xffffffffffffffff;
@@ -13,8 +13,8 @@ const NO_TABLE: u64 = 0xffffffffffffffff;
 // One call, and whether it was refused.
 fn one_call(table: &mut [u8], bytes: &[u8]) -> bool
     requires { ⌜ soundImage (now table) ≡ true ⌝ }
-    ensures { λ r. ⌜ (now (table .exit) ≡ made (now (table .entry)) (now (bytes .entry)) .image) × (soundImage (now (table .exit)) ≡ true) ⌝ }
-    ensures { λ r. ⌜ r ≡ isRefused (made (now (table .entry)) (now (bytes .entry))) ⌝ }
+    ensures { λ r. ⌜ (now (table .exit) ≡ callMade (now (table .entry)) (now (bytes .entry)) .image) × (soundImage (now (table .exit)) ≡ true) ⌝ }
+    ensures { λ r. ⌜ r ≡ isRefused (callMade (now (table .entry)) (now (bytes .entry))) ⌝ }
 {
     let mut room = [0u8; 128];
     let answer = engine::call_sound(table, bytes, &mut room);

@@ -13,7 +13,7 @@ use Rattle.ledger.specs.Tally.{oneIf, occ, has, free}
 use Rattle.ledger.proofs.Tallies.{both-of, picked}
 use Rattle.ledger.proofs.Sums.{occ-append, sum-put}
 use Rattle.image.proofs.Joined.{each-set, each-more}
-use Rattle.paper.specs.Base.{numberOf, isIn, boundStates, noStream, inState, attachedIn, settled, Slot, closed, justOpened, Table, slot, stream, waiting, ppaNumbers, noPpa, withSlot, withCalls, withStream, withCounter, withPpa, remembering}
+use Rattle.paper.specs.Base.{numberOf, isIn, boundStates, noStream, inState, attachedIn, settled, Slot, closed, justOpened, Table, slot, stream, waiting, ppaNumbers, noPpa, withSlot, withNumbers, withStream, withCounter, withPpa, remembering}
 use Rattle.paper.specs.Saps.{listens}
 use Rattle.paper.specs.Correlations.{occurrences}
 use Rattle.paper.specs.Sound.{listenersOf}
@@ -74,8 +74,8 @@ open-sound t k i =
 calls-sound : (t : Table) → Sound t → (i : ℕ) → slot t i .isOpen ≡ true → (s : Stream) (w : List ℕ) → Ok (ppaNumbers t) (record { isOpen = true; stream = s; waiting = w })
     → ((n : ℕ) → occ n w + occurrences t n ≤ cap n + occ n (waiting t i))
     → ((p : PpaNumber) (q : ℕ) → hearing p q s + listenersOf t p q ≤ 1 + hearing p q (stream t i))
-    → Sound (withCalls t i s w)
-unfolding withCalls
+    → Sound (withNumbers t i s w)
+unfolding withNumbers
 calls-sound t k i u s w o h l = rw u (put-sound t k i (record { isOpen = true; stream = s; waiting = w }) o h l (λ e. absurd (false≢true (sym (k .recalls e i) ∙ u))))
 
 -- a stream alone
@@ -94,7 +94,7 @@ deaf t k i s z p sap = rw z (omega (arith, k .alone p sap))
 
 -- with other numbers
 pub standing-sound : (t : Table) → Sound t → (i : ℕ) (q : State) (w : List ℕ) → slot t i .isOpen ≡ true → Fits (stream t i) q → eqb (numberOf q) 9 ≡ ltb 0 (length w)
-    → length w ≤ stream t i .granted → ((n : ℕ) → occ n w + occurrences t n ≤ cap n + occ n (waiting t i)) → Sound (withCalls t i (settled q (stream t i)) w)
+    → length w ≤ stream t i .granted → ((n : ℕ) → occ n w + occurrences t n ≤ cap n + occ n (waiting t i)) → Sound (withNumbers t i (settled q (stream t i)) w)
 standing-sound t k i q w u f n l h = calls-sound t k i u (settled q (stream t i)) w (ok-settled (ppaNumbers t) (slot t i) q w (k .each i) f n l) h no-more
   where
     -- what counts for listening is no state
@@ -124,7 +124,7 @@ unfolding withCounter occurrences
 counter-sound t k c b = record { sixteen = k .sixteen; small = b; each = k .each; once = k .once; alone = k .alone; differ = k .differ; most = k .most; macs = k .macs; recalls = k .recalls }
 
 pub more-sound : (t : Table) → Sound t → (i n c : ℕ) (q : State) → c < 2 ^ 32 → free (occurrences t) n ≡ true → n < 2 ^ 32 → slot t i .isOpen ≡ true → Fits (stream t i) q → eqb (numberOf q) 9 ≡ true
-    → length (waiting t i) < stream t i .granted → Sound (withCalls (withCounter t c) i (settled q (stream t i)) (waiting t i ++ (n ∷ [])))
+    → length (waiting t i) < stream t i .granted → Sound (withNumbers (withCounter t c) i (settled q (stream t i)) (waiting t i ++ (n ∷ [])))
 unfolding withCounter occurrences
 more-sound t k i n c q b f v u w m l =
     let f′ : (ltb 0 n ≡ true) × (eqb (occurrences t n) 0 ≡ true) = both-of (ltb 0 n) (eqb (occurrences t n) 0) f in

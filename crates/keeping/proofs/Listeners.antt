@@ -17,7 +17,7 @@ use Rattle.book.specs.declared.Line.{Line}
 use Rattle.book.specs.declared.Line.the-variants.{Came, Went}
 use Rattle.book.proofs.Shades.{silent}
 use Rattle.ledger.proofs.Sums.{occ-without}
-use Rattle.paper.specs.Base.{numberOf, stateOf, number, isIn, isAmong, boundStates, connectionStates, inState, settled, Slot, closed, Table, slot, stream, waiting, ppaNumbers, withSlot, withCalls}
+use Rattle.paper.specs.Base.{numberOf, stateOf, number, isIn, isAmong, boundStates, connectionStates, inState, settled, Slot, closed, Table, slot, stream, waiting, ppaNumbers, withSlot, withNumbers}
 use Rattle.paper.specs.Correlations.{occurrences, onePast}
 use Rattle.paper.specs.Effects.{standing, changed, carried, enacted, next, less, more, acting, accepting}
 use Rattle.paper.specs.declared.State.{State}
@@ -135,7 +135,7 @@ module _ (t : Table) (k : Sound t) (i : ℕ) (u : slot t i .isOpen ≡ true) (x 
         accept-on f =
             let six : number (stream t c) ≡ 6 = eqb-true _ _ (f .idle) in
             let b : isAmong boundStates (stream t c) ≡ true = ap (λ (m : ℕ). has m boundStates) six in
-            carrier-good (slot t c) (unfold changed withCalls withSlot in getD-set-other (t .slots) i c _ closed (f .other)) (f .isOpen) (ap (λ (m : ℕ). eqb m 9) six) b
+            carrier-good (slot t c) (unfold changed withNumbers withSlot in getD-set-other (t .slots) i c _ closed (f .other)) (f .isOpen) (ap (λ (m : ℕ). eqb m 9) six) b
             (allows (stream t c) (k .each c .bound b) .1 (f .notConnectionless))
 
         -- the listener itself, of which no other number is open
@@ -145,7 +145,7 @@ module _ (t : Table) (k : Sound t) (i : ℕ) (u : slot t i .isOpen ≡ true) (x 
             (here (empty left (omega (arith, length-without (n .0) (waiting t i) (ltb-true 0 (occ (n .0) (waiting t i)) h))))) refl last-calm last-bound in-mode-one
           where
             here : left ≡ [] → slot (changed t i (less x (stream t i) n)) c ≡ record { isOpen = true; stream = inState (stateOf (x .last)) (stream t i); waiting = [] }
-            here w = unfold changed withCalls withSlot in
+            here w = unfold changed withNumbers withSlot in
                 ap (slot (changed t i (less x (stream t i) n))) g
                 ∙ getD-set-same (t .slots) i _ closed (within (λ (s : Slot). s .isOpen) closed refl (t .slots) i u)
                 ∙ rw (u, w) (ap (λ (s : Stream). record { isOpen = true; stream = s; waiting = [] }) (stands [] ∙ settled-bound (stream t i) (stateOf (x .last)) last-bound))

@@ -18,7 +18,7 @@ use Rattle.book.specs.declared.Line.the-variants.{Began, Came, Went, Given}
 use Rattle.book.specs.Book.{grantBy}
 use Rattle.book.proofs.Shades.{silent, shade, shades, fairs, rooteds, openingsIn, Silent, silence, Taken}
 use Rattle.ledger.proofs.Sums.{there, put-in, put-same, put-cases}
-use Rattle.paper.specs.Base.{isAmong, boundStates, Slot, closed, justOpened, Table, slot, stream, waiting, withSlot, withCalls, withStream, withCounter, remembering}
+use Rattle.paper.specs.Base.{isAmong, boundStates, Slot, closed, justOpened, Table, slot, stream, waiting, withSlot, withNumbers, withStream, withCounter, remembering}
 use Rattle.paper.specs.declared.Stream.{Stream}
 
 pub record Seen (s : ℕ) (t : Table) (ys : List Line) (u : Table) : Type 0 where
@@ -56,7 +56,7 @@ shows-still t ys h s =
 
 -- after that, a stream changes with the same numbers
 pub shows-stream : (t u : Table) (ys : List Line) (i : ℕ) (x : Stream) → Shows t ys u → SameGrant (stream u i) x → Shows t ys (withStream u i x)
-unfolding withStream withCalls withSlot
+unfolding withStream withNumbers withSlot
 shows-stream t u ys i x a m s = record {
   shaded = put-same waitingOf closed (u .slots) i s y refl ∙ a s .shaded;
   fairly = a s .fairly;
@@ -72,8 +72,8 @@ shows-stream t u ys i x a m s = record {
 
 -- an open stream changes with its numbers: one goes, which is told first; one comes
 module _ (t : Table) (i : ℕ) (o : slot t i .isOpen ≡ true) (x : Stream) (m : SameGrant (stream t i) x) where
-  pub shows-less : (n : ℕ) (f : End) (zs : List Line) → has n (waiting t i) ≡ true → silent zs ≡ true → Shows t (Went i n f ∷ zs) (withCalls t i x (without n (waiting t i)))
-  unfolding withCalls withSlot
+  pub shows-less : (n : ℕ) (f : End) (zs : List Line) → has n (waiting t i) ≡ true → silent zs ≡ true → Shows t (Went i n f ∷ zs) (withNumbers t i x (without n (waiting t i)))
+  unfolding withNumbers withSlot
   shows-less n f zs h c s =
       let z : Silent zs = silence zs c in
       record {
@@ -89,8 +89,8 @@ module _ (t : Table) (i : ℕ) (o : slot t i .isOpen ≡ true) (x : Stream) (m :
       y : Slot
       y = record { isOpen = slot t i .isOpen; stream = x; waiting = without n (waiting t i) }
 
-  pub shows-more : (n c : ℕ) → length (waiting t i) < 8 → Shows t (Came i n ∷ []) (withCalls (withCounter t c) i x (waiting t i ++ (n ∷ [])))
-  unfolding withCounter withCalls withSlot
+  pub shows-more : (n c : ℕ) → length (waiting t i) < 8 → Shows t (Came i n ∷ []) (withNumbers (withCounter t c) i x (waiting t i ++ (n ∷ [])))
+  unfolding withCounter withNumbers withSlot
   shows-more n c l s = record {
     shaded = put-in waitingOf closed (λ (w : List ℕ). w ++ (n ∷ [])) (t .slots) i s y (within isOpenOf closed refl (t .slots) i o) refl;
     fairly = to-both _ true (there (λ (s : ℕ). ltb (length (waiting t s)) 8) s i (lt-ltb _ _ l)) refl;
@@ -124,7 +124,7 @@ shows-opens t i b z s = record {
 
 -- a bind grants
 pub shows-binds : (t : Table) (i : ℕ) → slot t i .isOpen ≡ true → (x : Stream) → Shows t (Given i (x .granted) ∷ []) (withStream t i x)
-unfolding withStream withCalls withSlot
+unfolding withStream withNumbers withSlot
 shows-binds t i h x s = record {
   shaded = put-same waitingOf closed (t .slots) i s y refl;
   fairly = refl;

@@ -25,7 +25,7 @@ fn is_ppa(img: &[u8], p: PpaNumber, k: usize) -> bool
 }
 
 // The place of the PPA with a number; as many as there are PPAs where none has it.
-fn place_of(img: &[u8], p: PpaNumber) -> usize
+fn ppa_place(img: &[u8], p: PpaNumber) -> usize
     requires { ⌜ (length (now img) ≡ 760) × Lent (now img) ⌝ }
     ensures { λ r. ⌜ r ≡ firstOf (λ (q : Ppa). eqb (q .number .0) (p .0)) (tableOf (now (img .entry)) .ppas) ⌝ }
 {
@@ -44,11 +44,11 @@ pub fn knows(img: &[u8], p: PpaNumber) -> bool
     requires { ⌜ (length (now img) ≡ 760) × Lent (now img) ⌝ }
     ensures { λ r. ⌜ r ≡ knows (tableOf (now (img .entry))) p ⌝ }
 {
-    place_of(img, p) < image::ppa_total(img) as usize
+    ppa_place(img, p) < image::ppa_total(img) as usize
 }
 
 // The MAC of the PPA at a place.
-fn mac_at(img: &[u8], k: usize) -> [u8; 6]
+fn mac_at_place(img: &[u8], k: usize) -> [u8; 6]
     requires { ⌜ (k < length (tableOf (now img) .ppas)) × (length (now img) ≡ 760) × Lent (now img) ⌝ }
     ensures { λ r. ⌜ r ≡ getD (tableOf (now (img .entry)) .ppas) k noPpa .mac ⌝ }
 {
@@ -64,9 +64,9 @@ pub fn mac_of(img: &[u8], p: PpaNumber) -> [u8; 6]
     requires { ⌜ (length (now img) ≡ 760) × Lent (now img) ⌝ }
     ensures { λ r. ⌜ r ≡ macOf (tableOf (now (img .entry))) p ⌝ }
 {
-    let k = place_of(img, p);
+    let k = ppa_place(img, p);
     if k < image::ppa_total(img) as usize {
-        return mac_at(img, k);
+        return mac_at_place(img, k);
     }
     [0; 6]
 }

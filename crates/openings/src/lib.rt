@@ -33,7 +33,7 @@ pub fn add_ppa(img: &mut [u8], p: PpaNumber, mac: &[u8]) -> u32
     if lookup::knows(img, p) {
         return outcomes::refused(NO_NEW_PPA);
     }
-    image::add_ppa(img, p, mac);
+    image::store_ppa(img, p, mac);
     0
 }
 
@@ -51,7 +51,7 @@ pub fn open_stream(img: &mut [u8]) -> u32
 }
 
 // A d with reason 0 for each open indication, the oldest first.
-fn put_denials(img: &[u8], room: &mut [u8], i: u8) -> usize
+fn put_drops(img: &[u8], room: &mut [u8], i: u8) -> usize
     requires { ⌜ (i < 16) × (length (now img) ≡ 760) × Lent (now img) × (128 ≤ length (now room)) ⌝ }
     ensures { λ n. ⌜ (n ≡ length (allBytes (map (goodbye i) (waiting (tableOf (now (img .entry))) i)))) × (n ≤ 80) × (now (room .exit) ≡ over (allBytes (map (goodbye i) (waiting (tableOf (now (img .entry))) i))) (now (room .entry))) ⌝ }
 {
@@ -59,7 +59,7 @@ fn put_denials(img: &[u8], room: &mut [u8], i: u8) -> usize
     let count = image::count_at(img, at) as usize;
     let mut k: usize = 0;
     while k < count {
-        let c = calls::call_at(img, at, k);
+        let c = calls::number_at(img, at, k);
         replies::put_order(&mut room[k * 10..], i, LineOrder::Disconnect(c, 0));
         k += 1;
     }
@@ -73,7 +73,7 @@ fn put_goodbyes(img: &[u8], room: &mut [u8], i: u8) -> usize
 {
     let state = image::state_at(img, i as usize);
     if paper::number_of(state) == 9 {
-        return put_denials(img, room, i);
+        return put_drops(img, room, i);
     }
     if paper::is_calling(state) {
         return replies::put_order(room, i, LineOrder::Disconnect(Correlation(0), 0));

@@ -51,8 +51,8 @@ callOf img r room = not (tidy img) ⇒ left (refusing notSound) img room ∣ lea
 
 -- ---- as the programs make it: with a room of 128 zeros
 
-abbrev pub made : List ℕ → List ℕ → Left
-made img r = callOf img r (replicate 128 0)
+abbrev pub callMade : List ℕ → List ℕ → Left
+callMade img r = callOf img r (replicate 128 0)
 
 abbrev pub isRefused : Left → Bool
 isRefused l = ltb 0 (refusalIn (l .number))

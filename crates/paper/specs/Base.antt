@@ -152,12 +152,12 @@ unfoldable pub withSlot : Table → ℕ → Slot → Table
 withSlot t i x = record { remembers = t .remembers; counter = t .counter; ppas = t .ppas; slots = set (t .slots) i x }
 
 -- a stream and its open numbers
-unfoldable pub withCalls : Table → ℕ → Stream → List ℕ → Table
-withCalls t i s w = withSlot t i (record { isOpen = slot t i .isOpen; stream = s; waiting = w })
+unfoldable pub withNumbers : Table → ℕ → Stream → List ℕ → Table
+withNumbers t i s w = withSlot t i (record { isOpen = slot t i .isOpen; stream = s; waiting = w })
 
 -- a stream alone
 unfoldable pub withStream : Table → ℕ → Stream → Table
-withStream t i s = withCalls t i s (waiting t i)
+withStream t i s = withNumbers t i s (waiting t i)
 
 unfoldable pub withCounter : Table → ℕ → Table
 withCounter t n = record { remembers = t .remembers; counter = n; ppas = t .ppas; slots = t .slots }

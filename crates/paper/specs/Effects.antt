@@ -7,7 +7,7 @@ use lib.Dec.{eqb}
 use Rattle.ledger.specs.Choice.{pick}
 use Rattle.ledger.specs.Tally.{without}
 use Rattle.octets.specs.Runs.{part}
-use Rattle.paper.specs.Base.{stateOf, isIn, isAmong, joinedStates, attachedIn, settled, Slot, Table, stream, waiting, withCalls, withStream, withCounter}
+use Rattle.paper.specs.Base.{stateOf, isIn, isAmong, joinedStates, attachedIn, settled, Slot, Table, stream, waiting, withNumbers, withStream, withCounter}
 use Rattle.paper.specs.RecordsIn.{addressIn, calledIn, callingIn}
 use Rattle.paper.specs.Replies.{addressOf, infoTail}
 use Rattle.paper.specs.RecordsOut.{Record, order, up, flushIf, inOrder}
@@ -48,8 +48,8 @@ standing last s (n ∷ l) = s
 unfoldable pub changed : Table → ℕ → Change → Table
 changed t i Stays = t
 changed t i (Becomes s) = withStream t i s
-changed t i (Takes s n) = withCalls (withCounter t (onePast (n .0))) i s (waiting t i ++ (n .0 ∷ []))
-changed t i (Loses s n last) = withCalls t i (standing last s (without (n .0) (waiting t i))) (without (n .0) (waiting t i))
+changed t i (Takes s n) = withNumbers (withCounter t (onePast (n .0))) i s (waiting t i ++ (n .0 ∷ []))
+changed t i (Loses s n last) = withNumbers t i (standing last s (without (n .0) (waiting t i))) (without (n .0) (waiting t i))
 
 -- The carrying stream goes to 11.
 unfoldable pub carried : Table → ℕ → Bool → Table

@@ -22,7 +22,7 @@ P l content = (80 ∷ 0 ∷ l ∷ []) ++ pad content
 abbrev pub C : ℕ → List ℕ → List ℕ
 C l content = (67 ∷ 0 ∷ l ∷ []) ++ pad content
 
--- the PPA's MAC, the address of stream 0 once bound, and the peer's
+-- the PPA's MAC, the address of stream 0 once boundStream, and the peer's
 abbrev pub mac : List ℕ
 mac = 2 ∷ 0 ∷ 0 ∷ 0 ∷ 0 ∷ 1 ∷ []
 
@@ -43,31 +43,31 @@ abbrev pub openStream : List ℕ
 openStream = 79 ∷ []
 
 -- I 00000001 02000000000180 02000000000284
-abbrev pub callArrives : List ℕ
-callArrives = 73 ∷ be32 1 ++ own ++ peer
+abbrev pub ringsIn : List ℕ
+ringsIn = 73 ∷ be32 1 ++ own ++ peer
 
-abbrev pub infoReq : List ℕ
-infoReq = P 4 (flat (0x00 ∷ []))
+abbrev pub infoMessage : List ℕ
+infoMessage = P 4 (flat (0x00 ∷ []))
 
-abbrev pub attachReq : List ℕ
-attachReq = P 8 (flat (0x0b ∷ 1 ∷ []))
+abbrev pub attachMessage : List ℕ
+attachMessage = P 8 (flat (0x0b ∷ 1 ∷ []))
 
 -- mode 1, conn_mgmt 0
-abbrev pub bindReq : ℕ → ℕ → List ℕ
-bindReq sap most = P 20 (flat (0x01 ∷ sap ∷ most ∷ 0x00010000 ∷ 0 ∷ []))
+abbrev pub bindMessage : ℕ → ℕ → List ℕ
+bindMessage sap most = P 20 (flat (0x01 ∷ sap ∷ most ∷ 0x00010000 ∷ 0 ∷ []))
 
 -- the address stands at 24
-abbrev pub connectReq : ℕ → List ℕ
-connectReq offset = P 31 (flat (0x0d ∷ 7 ∷ offset ∷ 0 ∷ 0 ∷ 0 ∷ []) ++ peer)
+abbrev pub connectMessage : ℕ → List ℕ
+connectMessage offset = P 31 (flat (0x0d ∷ 7 ∷ offset ∷ 0 ∷ 0 ∷ 0 ∷ []) ++ peer)
 
 -- token 0: on the same stream
-abbrev pub connectRes : ℕ → List ℕ
-connectRes n = P 24 (flat (0x0f ∷ n ∷ 0 ∷ 0 ∷ 0 ∷ 0 ∷ []))
+abbrev pub acceptMessage : ℕ → List ℕ
+acceptMessage n = P 24 (flat (0x0f ∷ n ∷ 0 ∷ 0 ∷ 0 ∷ 0 ∷ []))
 
 -- ---- records out
 
 -- INFO_ACK in order: 1497, 0, address length, 0, 0, state, SAP length, mode, 0, 0, 0, 0, 0x0501, address offset, 2, 6,
--- broadcast offset, 0; then the address if bound, then six bytes of 0xff.
+-- broadcast offset, 0; then the address if boundStream, then six bytes of 0xff.
 abbrev pub infoAckUnattached : List ℕ
 infoAckUnattached =
     C 82 (flat (0x03 ∷ 1497 ∷ 0 ∷ 0 ∷ 0 ∷ 0 ∷ 0 ∷ 0 ∷ 3 ∷ 0 ∷ 0 ∷ 0 ∷ 0 ∷ 0x0501 ∷ 0 ∷ 2 ∷ 6 ∷ 76 ∷ 0 ∷ []) ++ replicate 6 0xff)
@@ -114,8 +114,8 @@ unattached = streamZero 1 (record { state = Unattached; mode = 0; sap = 0; ppa =
 abbrev pub attached : Table
 attached = streamZero 1 (record { state = Unbound; mode = 0; sap = 0; ppa = record { 0 = 1 }; granted = 0 }) []
 
-abbrev pub bound : ℕ → Table
-bound granted = streamZero 1 (record { state = Idle; mode = 1; sap = 0x80; ppa = record { 0 = 1 }; granted = granted }) []
+abbrev pub boundStream : ℕ → Table
+boundStream granted = streamZero 1 (record { state = Idle; mode = 1; sap = 0x80; ppa = record { 0 = 1 }; granted = granted }) []
 
 abbrev pub connecting : Table
 connecting = streamZero 1 (record { state = OutconPending; mode = 1; sap = 0x80; ppa = record { 0 = 1 }; granted = 2 }) []
@@ -132,14 +132,14 @@ pub record Seen : Type 0 where
   pub bytes : List ℕ
   pub table : Table
 
-abbrev pub seen : Outcome → Seen
-seen o = record { refusal = o .refusal; token = o .opened; bytes = allBytes (o .records); table = o .table }
+abbrev pub seenOf : Outcome → Seen
+seenOf o = record { refusal = o .refusal; token = o .opened; bytes = allBytes (o .records); table = o .table }
 
 abbrev pub refuses : ℕ → Table → Seen
 refuses n t = record { refusal = n; token = 0; bytes = []; table = t }
 
-abbrev pub opens : ℕ → Table → Seen
-opens token t = record { refusal = 0; token = token; bytes = []; table = t }
+abbrev pub opensWith : ℕ → Table → Seen
+opensWith token t = record { refusal = 0; token = token; bytes = []; table = t }
 
 abbrev pub writes : List ℕ → Table → Seen
 writes bytes t = record { refusal = 0; token = 0; bytes = bytes; table = t }
@@ -154,18 +154,18 @@ abbrev pub dueOf : Case → Seen
 dueOf x = x .due
 
 abbrev pub cameOf : Case → Seen
-cameOf x = seen (step (x .before) (x .lent) (x .room))
+cameOf x = seenOf (step (x .before) (x .lent) (x .room))
 
 -- The calls that lead up to the cases, each on the table that the one before has left: those of the replay example, and
 -- a second I.
 abbrev pub leadUp : List Case
 leadUp =
     record { before = fresh; lent = addPpa; room = 128; due = writes [] noneOpened }
-    ∷ record { before = noneOpened; lent = openStream; room = 128; due = opens 1 unattached }
-    ∷ record { before = unattached; lent = attachReq; room = 128; due = writes (okAck 0x0b) attached }
-    ∷ record { before = attached; lent = bindReq 0x80 2; room = 128; due = writes (bindAck 2) (bound 2) }
-    ∷ record { before = bound 2; lent = callArrives; room = 128; due = writes (connectInd 1) (ringing 2 (1 ∷ [])) }
-    ∷ record { before = ringing 2 (1 ∷ []); lent = callArrives; room = 128; due = writes (connectInd 2) (ringing 3 (1 ∷ 2 ∷ [])) }
+    ∷ record { before = noneOpened; lent = openStream; room = 128; due = opensWith 1 unattached }
+    ∷ record { before = unattached; lent = attachMessage; room = 128; due = writes (okAck 0x0b) attached }
+    ∷ record { before = attached; lent = bindMessage 0x80 2; room = 128; due = writes (bindAck 2) (boundStream 2) }
+    ∷ record { before = boundStream 2; lent = ringsIn; room = 128; due = writes (connectInd 1) (ringing 2 (1 ∷ [])) }
+    ∷ record { before = ringing 2 (1 ∷ []); lent = ringsIn; room = 128; due = writes (connectInd 2) (ringing 3 (1 ∷ 2 ∷ [])) }
     ∷ []
 
 -- the tables on the way: a fresh one, and the one that each of these calls must leave
@@ -175,24 +175,24 @@ onTheWay = fresh ∷ map (λ (x : Case). x .due .table) leadUp
 abbrev pub starred : List Case
 starred =
     -- INFO_REQ unattached: state field 0, L 82. Bound to 0x80: L 89.
-    record { before = unattached; lent = infoReq; room = 128; due = writes infoAckUnattached unattached }
-    ∷ record { before = bound 2; lent = infoReq; room = 128; due = writes infoAckBound (bound 2) }
+    record { before = unattached; lent = infoMessage; room = 128; due = writes infoAckUnattached unattached }
+    ∷ record { before = boundStream 2; lent = infoMessage; room = 128; due = writes infoAckBound (boundStream 2) }
     -- SAP 0x81, 0x5ff: BADADDR.
-    ∷ record { before = attached; lent = bindReq 0x81 2; room = 128; due = writes (errorAck 0x01 1) attached }
-    ∷ record { before = attached; lent = bindReq 0x5ff 2; room = 128; due = writes (errorAck 0x01 1) attached }
+    ∷ record { before = attached; lent = bindMessage 0x81 2; room = 128; due = writes (errorAck 0x01 1) attached }
+    ∷ record { before = attached; lent = bindMessage 0x5ff 2; room = 128; due = writes (errorAck 0x01 1) attached }
     -- ATTACH with L 7: BADPRIM. L 3: refusal 4. L 97: 5. Room 127: 1.
     ∷ record { before = unattached; lent = P 7 (be32 0x0b); room = 128; due = writes (errorAck 0x0b 9) unattached }
     ∷ record { before = unattached; lent = P 3 []; room = 128; due = refuses 4 unattached }
     ∷ record { before = unattached; lent = P 97 []; room = 128; due = refuses 5 unattached }
-    ∷ record { before = unattached; lent = infoReq; room = 127; due = refuses 1 unattached }
+    ∷ record { before = unattached; lent = infoMessage; room = 127; due = refuses 1 unattached }
     -- CONNECT_REQ, L 31: offset 24 is served, offset 25 BADADDR, offset 4,294,967,295 BADADDR.
-    ∷ record { before = bound 2; lent = connectReq 24; room = 128; due = writes connect connecting }
-    ∷ record { before = bound 2; lent = connectReq 25; room = 128; due = writes (errorAck 0x0d 1) (bound 2) }
-    ∷ record { before = bound 2; lent = connectReq 4294967295; room = 128; due = writes (errorAck 0x0d 1) (bound 2) }
+    ∷ record { before = boundStream 2; lent = connectMessage 24; room = 128; due = writes connect connecting }
+    ∷ record { before = boundStream 2; lent = connectMessage 25; room = 128; due = writes (errorAck 0x0d 1) (boundStream 2) }
+    ∷ record { before = boundStream 2; lent = connectMessage 4294967295; room = 128; due = writes (errorAck 0x0d 1) (boundStream 2) }
     -- max_conind 9 grants 8.
-    ∷ record { before = attached; lent = bindReq 0x80 9; room = 128; due = writes (bindAck 8) (bound 8) }
+    ∷ record { before = attached; lent = bindMessage 0x80 9; room = 128; due = writes (bindAck 8) (boundStream 8) }
     -- Two open, accept on the same stream: PENDING.
-    ∷ record { before = ringing 3 (1 ∷ 2 ∷ []); lent = connectRes 1; room = 128; due = writes (errorAck 0x0f 0x1b) (ringing 3 (1 ∷ 2 ∷ [])) }
+    ∷ record { before = ringing 3 (1 ∷ 2 ∷ []); lent = acceptMessage 1; room = 128; due = writes (errorAck 0x0f 0x1b) (ringing 3 (1 ∷ 2 ∷ [])) }
     ∷ []
 
 -- after how many of the calls that lead up each case stands

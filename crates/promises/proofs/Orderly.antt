@@ -18,7 +18,7 @@ use Rattle.book.specs.declared.End.the-variants.{Denied, Withdrawn, Dropped}
 use Rattle.book.specs.declared.Line.the-variants.{Went}
 use Rattle.book.specs.Lines.{isMessageOf, mayBeSaid}
 use Rattle.ledger.proofs.Sums.{put-same}
-use Rattle.paper.specs.Base.{Slot, closed, justOpened, Table, slot, stream, waiting, lowestFree, tokenOf, ppaNumbers, macOf, macAt, withSlot, withCalls, withStream, withCounter, withPpa, remembering}
+use Rattle.paper.specs.Base.{Slot, closed, justOpened, Table, slot, stream, waiting, lowestFree, tokenOf, ppaNumbers, macOf, macAt, withSlot, withNumbers, withStream, withCounter, withPpa, remembering}
 use Rattle.paper.specs.Effects.{changed, carried, enacted, ordersIn, behindReply, upsIn, told, errorEffect, effectOf, eventEffect}
 use Rattle.paper.specs.Messages.{codeIn}
 use Rattle.paper.specs.Openings.{goodbye, goodbyes}
@@ -55,12 +55,12 @@ none-first s = ne-eqb 0 (suc s) (λ e. omega (arith, e))
 
 -- ---- no effect opens or closes a stream
 
-open-calls : (t : Table) (i : ℕ) (x : Stream) (w : List ℕ) (s : ℕ) → slot (withCalls t i x w) s .isOpen ≡ slot t s .isOpen
-unfolding withCalls withSlot
+open-calls : (t : Table) (i : ℕ) (x : Stream) (w : List ℕ) (s : ℕ) → slot (withNumbers t i x w) s .isOpen ≡ slot t s .isOpen
+unfolding withNumbers withSlot
 open-calls t i x w s = put-same (λ (y : Slot). y .isOpen) closed (t .slots) i s (record { isOpen = slot t i .isOpen; stream = x; waiting = w }) refl
 
 open-changed : (t : Table) (i : ℕ) (c : Change) (s : ℕ) → slot (changed t i c) s .isOpen ≡ slot t s .isOpen
-unfolding changed withStream withCounter withCalls withSlot
+unfolding changed withStream withCounter withNumbers withSlot
 open-changed t i Stays s = refl
 open-changed t i (Becomes x) s = open-calls t i x (waiting t i) s
 open-changed t i (Takes x n) s = open-calls t i x (waiting t i ++ (n .0 ∷ [])) s

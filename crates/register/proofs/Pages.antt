@@ -14,7 +14,7 @@ use Rattle.book.specs.declared.End.{End}
 use Rattle.book.specs.declared.End.the-variants.{Accepted, Denied, Withdrawn, Dropped}
 use Rattle.book.specs.Book.{Opening, openOf, openCount, mark, noted, newest, onNewest, countOf, bump}
 use Rattle.book.proofs.Shades.{open-noted, open-mark}
-use Rattle.register.specs.Register.{counting, cleared, closeUp, firstFree, placeOf, begun, standing, placed, rung, removed, gone}
+use Rattle.register.specs.Register.{counting, cleared, closeUp, firstFree, placeOf, begun, standingAt, placed, rung, removed, gone}
 use Rattle.register.proofs.Cells.{by-order, one-other, cell, cleared-length, cleared-before, cleared-behind, cleared-in, closed-length, closed-before, closed-behind, counting-length, counting-other, counting-stream}
 use Rattle.register.proofs.Places.{placesFrom, asked, spot, places-length, places-noted, length-noted, length-mark, Ended, ended}
 use Rattle.register.proofs.Row.{Reads, takes, narrower, free-at, find-at, still-reads, reads-more, reads-less}
@@ -171,9 +171,9 @@ module _ (l : List ℕ) (i : ℕ) (t : ℕ → List ℕ) (m : ℕ) (h : i < 16) 
 
 -- ---- one comes
 
-placed-is : (i n c : ℕ) (l : List ℕ) → firstFree i l ≡ c → c < i * 24 + 22 → placed i n l ≡ standing i n c l
+placed-is : (i n c : ℕ) (l : List ℕ) → firstFree i l ≡ c → c < i * 24 + 22 → placed i n l ≡ standingAt i n c l
 unfolding placed
-placed-is i n c l e h = takes _ _ _ (lt-ltb (firstFree i l) (i * 24 + 22) (omega arith)) ∙ ap (λ (k : ℕ). standing i n k l) e
+placed-is i n c l e h = takes _ _ _ (lt-ltb (firstFree i l) (i * 24 + 22) (omega arith)) ∙ ap (λ (k : ℕ). standingAt i n k l) e
 
 -- the first free cell of a page
 abbrev freeCell : ℕ → List Opening → ℕ

@@ -70,11 +70,11 @@ abbrev pub begun : ℕ → List ℕ → List ℕ
 begun i l = counting i 0 (cleared 21 (i * 24 + 1) l)
 
 -- an indication that came stands in cell c, by its place in the opening
-abbrev pub standing : ℕ → ℕ → ℕ → List ℕ → List ℕ
-standing i n c l = set (set l c (getD l (i * 24 + 1) 0)) (c + 1) n
+abbrev pub standingAt : ℕ → ℕ → ℕ → List ℕ → List ℕ
+standingAt i n c l = set (set l c (getD l (i * 24 + 1) 0)) (c + 1) n
 
 unfoldable pub placed : ℕ → ℕ → List ℕ → List ℕ
-placed i n l = ltb (firstFree i l) (i * 24 + 22) ⇒ standing i n (firstFree i l) l ∣ l
+placed i n l = ltb (firstFree i l) (i * 24 + 22) ⇒ standingAt i n (firstFree i l) l ∣ l
 
 abbrev pub rung : ℕ → ℕ → List ℕ → List ℕ
 rung i n l = placed i n (counting i 1 l)

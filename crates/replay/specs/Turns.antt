@@ -4,14 +4,14 @@ use mathlib.Core.List.{List}
 use lib.ListN.{length}
 use Rattle.ledger.specs.Choice.{_⇒_∣_}
 use Rattle.octets.specs.Runs.{paste}
-use Rattle.outcomes.specs.Leaving.{Left, made, isRefused}
+use Rattle.outcomes.specs.Leaving.{Left, callMade, isRefused}
 use Rattle.turns.specs.Turns.{unread, waits, isOver, stopping, afterCall}
 use Rattle.turns.specs.declared.Turn.{Turn}
 use Rattle.replay.specs.Printed.{printed}
 
 -- The call has the next number and is lent what is not read yet; its text goes behind what is printed already.
 abbrev pub callOn : List ℕ → List ℕ → Turn → Left
-callOn table input t = made table (unread input t)
+callOn table input t = callMade table (unread input t)
 
 abbrev pub textOn : List ℕ → List ℕ → Turn → List ℕ
 textOn table input t = printed (t .calls + 1) (callOn table input t)

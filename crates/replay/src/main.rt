@@ -6,7 +6,7 @@ ghost use lib.ListN.{length};
 ghost use Rattle.octets.specs.Runs.{paste};
 ghost use Rattle.image.specs.Layout.{soundImage};
 ghost use Rattle.turns.specs.Turns.{Fine, Ready};
-ghost use Rattle.outcomes.specs.Leaving.{made, isRefused};
+ghost use Rattle.outcomes.specs.Leaving.{callMade, isRefused};
 ghost use Rattle.replay.specs.Printed.{printed};
 ghost use Rattle.replay.specs.Turns.{callOn, textOn, called, turnAfter, tableAfter, outputAfter};
 use turns::Turn;
@@ -20,10 +20,10 @@ pub struct Printed {
 // One call, and its text from a place of the output on.
 fn replay_call(table: &mut [u8], bytes: &[u8], out: &mut [u8], at: usize, n: u64) -> Printed
     requires { ⌜ (at + 20000 ≤ length (now out)) × (soundImage (now table) ≡ true) ⌝ }
-    ensures { λ r. ⌜ (now (table .exit) ≡ made (now (table .entry)) (now (bytes .entry)) .image) × (soundImage (now (table .exit)) ≡ true) ⌝ }
-    ensures { λ r. ⌜ now (out .exit) ≡ paste (now (out .entry)) at (printed n (made (now (table .entry)) (now (bytes .entry)))) ⌝ }
-    ensures { λ r. ⌜ (r .end ≡ at + length (printed n (made (now (table .entry)) (now (bytes .entry))))) × (r .end ≤ at + 20000) ⌝ }
-    ensures { λ r. ⌜ r .refused ≡ isRefused (made (now (table .entry)) (now (bytes .entry))) ⌝ }
+    ensures { λ r. ⌜ (now (table .exit) ≡ callMade (now (table .entry)) (now (bytes .entry)) .image) × (soundImage (now (table .exit)) ≡ true) ⌝ }
+    ensures { λ r. ⌜ now (out .exit) ≡ paste (now (out .entry)) at (printed n (callMade (now (table .entry)) (now (bytes .entry)))) ⌝ }
+    ensures { λ r. ⌜ (r .end ≡ at + length (printed n (callMade (now (table .entry)) (now (bytes .entry))))) × (r .end ≤ at + 20000) ⌝ }
+    ensures { λ r. ⌜ r .refused ≡ isRefused (callMade (now (table .entry)) (now (bytes .entry))) ⌝ }
 {
     let mut room = [0u8; 128];
     let answer = engine::call_sound(table, bytes, &mut room);

@@ -21,7 +21,7 @@ use Rattle.book.specs.declared.Line.{Line}
 use Rattle.book.specs.declared.Line.the-variants.{Began, Went}
 use Rattle.book.specs.Lines.{asker, endLine, upLine, lineAt, recordsIn, linesIn, openingLines}
 use Rattle.register.specs.Register.{openOn, entered, enteredAll}
-use Rattle.report.specs.Report.{wordCall, wordOf, wordOpen, spaced, numbers, callLine, openLines, endText, lineText, allText, endTexts, openOnAll}
+use Rattle.report.specs.Report.{wordCall, wordOf, wordStillOpen, spacedNumber, numbers, indicationLine, openLines, endText, lineText, allText, endTexts, openOnAll}
 
 -- ---- what is still to come, behind e, leads to the same text
 
@@ -60,7 +60,7 @@ unfolding numbers
 numbers-end zero c l h = refl
 numbers-end (suc k) c l h = absurd (omega arith)
 
-pub numbers-next : (k c : ℕ) (l : List ℕ) → 0 < k → numbers k c l ≡ spaced (getD l c 0) ++ numbers (k - 1) (c + 1) l
+pub numbers-next : (k c : ℕ) (l : List ℕ) → 0 < k → numbers k c l ≡ spacedNumber (getD l c 0) ++ numbers (k - 1) (c + 1) l
 unfolding numbers
 numbers-next zero c l h = absurd (omega arith)
 numbers-next (suc k) c l h =
@@ -71,7 +71,7 @@ numbers-most : (k c : ℕ) (l : List ℕ) → length (numbers k c l) ≤ 21 * k
 unfolding numbers
 numbers-most zero c l = omega arith
 numbers-most (suc k) c l =
-    omega (arith, decimal-most (getD l c 0), length-append (spaced (getD l c 0)) (numbers k (c + 1) l), numbers-most k (c + 1) l)
+    omega (arith, decimal-most (getD l c 0), length-append (spacedNumber (getD l c 0)) (numbers k (c + 1) l), numbers-most k (c + 1) l)
 
 -- ---- those still open
 
@@ -86,7 +86,7 @@ open-none zero i c l h = refl
 open-none (suc k) i c l h = rw (eq-eqb (getD l c 0) 0 h)
 
 pub open-next : (k i c : ℕ) (l : List ℕ) → 0 < k → (getD l c 0 ≡ 0 → ⊥)
-    → openLines k i c l ≡ callLine i c wordOpen l ++ openLines (k - 1) i (c + 2) l
+    → openLines k i c l ≡ indicationLine i c wordStillOpen l ++ openLines (k - 1) i (c + 2) l
 unfolding openLines _⇒_∣_
 open-next zero i c l h n = absurd (omega arith)
 open-next (suc k) i c l h n =
@@ -127,9 +127,9 @@ word-most Denied = omega arith
 word-most Withdrawn = omega arith
 word-most Dropped = omega arith
 
-pub call-most : (i c : ℕ) (word l : List ℕ) → length word ≤ 10 → length (callLine i c word l) ≤ 100
+pub call-most : (i c : ℕ) (word l : List ℕ) → length word ≤ 10 → length (indicationLine i c word l) ≤ 100
 call-most i c word l h =
-    let a = wordCall ++ spaced i in
+    let a = wordCall ++ spacedNumber i in
     let b = a ++ numbers 1 (i * 24) l in
     let d = b ++ numbers 2 c l in
     omega (

@@ -14,8 +14,8 @@ use Rattle.register.specs.Register.{placeOf, openOn, entered}
 -- ---- words
 
 -- 'dlpi fates', 'call', 'opening', 'total'
-abbrev pub title : List ℕ
-title = 100 ∷ 108 ∷ 112 ∷ 105 ∷ 32 ∷ 102 ∷ 97 ∷ 116 ∷ 101 ∷ 115 ∷ 10 ∷ []
+abbrev pub heading : List ℕ
+heading = 100 ∷ 108 ∷ 112 ∷ 105 ∷ 32 ∷ 102 ∷ 97 ∷ 116 ∷ 101 ∷ 115 ∷ 10 ∷ []
 
 abbrev pub wordCall : List ℕ
 wordCall = 99 ∷ 97 ∷ 108 ∷ 108 ∷ []
@@ -33,32 +33,32 @@ wordOf Denied = 32 ∷ 100 ∷ 101 ∷ 110 ∷ 105 ∷ 101 ∷ 100 ∷ []
 wordOf Withdrawn = 32 ∷ 119 ∷ 105 ∷ 116 ∷ 104 ∷ 100 ∷ 114 ∷ 97 ∷ 119 ∷ 110 ∷ []
 wordOf Dropped = 32 ∷ 100 ∷ 114 ∷ 111 ∷ 112 ∷ 112 ∷ 101 ∷ 100 ∷ []
 
-abbrev pub wordOpen : List ℕ
-wordOpen = 32 ∷ 111 ∷ 112 ∷ 101 ∷ 110 ∷ []
+abbrev pub wordStillOpen : List ℕ
+wordStillOpen = 32 ∷ 111 ∷ 112 ∷ 101 ∷ 110 ∷ []
 
 -- ---- lines
 
 -- a blank and a number
-abbrev pub spaced : ℕ → List ℕ
-spaced n = 32 ∷ decimal n
+abbrev pub spacedNumber : ℕ → List ℕ
+spacedNumber n = 32 ∷ decimal n
 
 -- k numbers of the register, from cell c on
 unfoldable pub numbers : ℕ → ℕ → List ℕ → List ℕ
 numbers zero c l = []
-numbers (suc k) c l = spaced (getD l c 0) ++ numbers k (c + 1) l
+numbers (suc k) c l = spacedNumber (getD l c 0) ++ numbers k (c + 1) l
 
 -- 'call stream opening call number fate', of the indication in cell c
-abbrev pub callLine : ℕ → ℕ → List ℕ → List ℕ → List ℕ
-callLine i c word l = wordCall ++ spaced i ++ numbers 1 (i * 24) l ++ numbers 2 c l ++ word ++ (10 ∷ [])
+abbrev pub indicationLine : ℕ → ℕ → List ℕ → List ℕ → List ℕ
+indicationLine i c word l = wordCall ++ spacedNumber i ++ numbers 1 (i * 24) l ++ numbers 2 c l ++ word ++ (10 ∷ [])
 
 -- the lines of those still open, from cell c on, at most so many
 unfoldable pub openLines : ℕ → ℕ → ℕ → List ℕ → List ℕ
 openLines zero i c l = []
-openLines (suc k) i c l = eqb (getD l c 0) 0 ⇒ [] ∣ callLine i c wordOpen l ++ openLines k i (c + 2) l
+openLines (suc k) i c l = eqb (getD l c 0) 0 ⇒ [] ∣ indicationLine i c wordStillOpen l ++ openLines k i (c + 2) l
 
 -- 'opening stream opening calls accepted denied withdrawn dropped open'
 abbrev pub openingLine : ℕ → List ℕ → List ℕ
-openingLine i l = wordOpening ++ spaced i ++ numbers 6 (i * 24) l ++ spaced (openOn i l) ++ (10 ∷ [])
+openingLine i l = wordOpening ++ spacedNumber i ++ numbers 6 (i * 24) l ++ spacedNumber (openOn i l) ++ (10 ∷ [])
 
 -- what is printed of an opening at its end; nothing of a stream that was never opened
 unfoldable pub endText : ℕ → List ℕ → List ℕ
@@ -69,7 +69,7 @@ endText i l = eqb (getD l (i * 24) 0) 0 ⇒ [] ∣ openLines 8 i (i * 24 + 6) l 
 unfoldable pub lineText : Line → List ℕ → List ℕ
 lineText (Began i) l = ltb i 16 ⇒ endText i l ∣ []
 lineText (Came i n) l = []
-lineText (Went i n e) l = both (ltb i 16) (ltb (placeOf i n l) (i * 24 + 22)) ⇒ callLine i (placeOf i n l) (wordOf e) l ∣ []
+lineText (Went i n e) l = both (ltb i 16) (ltb (placeOf i n l) (i * 24 + 22)) ⇒ indicationLine i (placeOf i n l) (wordOf e) l ∣ []
 lineText (Given i g) l = []
 lineText Nothing l = []
 
@@ -91,7 +91,7 @@ openOnAll (suc k) i l = openOn i l + openOnAll k (i + 1) l
 
 -- 'total openings calls accepted denied withdrawn dropped open'
 abbrev pub totalLine : List ℕ → List ℕ
-totalLine l = wordTotal ++ numbers 6 384 l ++ spaced (openOnAll 16 0 l) ++ (10 ∷ [])
+totalLine l = wordTotal ++ numbers 6 384 l ++ spacedNumber (openOnAll 16 0 l) ++ (10 ∷ [])
 
 abbrev pub closing : List ℕ → List ℕ
 closing l = endTexts 16 0 l ++ totalLine l

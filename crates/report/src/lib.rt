@@ -6,15 +6,15 @@ ghost use Rattle.octets.specs.Runs.{paste};
 ghost use Rattle.book.specs.Lines.{linesIn, openingLines, linesOf};
 ghost use Rattle.book.specs.declared.Line.the-variants.{Began, Went};
 ghost use Rattle.register.specs.Register.{entered, enteredAll};
-ghost use Rattle.report.specs.Report.{title, wordOf, spaced, numbers, callLine, openLines, openingLine, endText, lineText, allText, endTexts, openOnAll, totalLine, closing};
+ghost use Rattle.report.specs.Report.{heading, wordOf, spacedNumber, numbers, indicationLine, openLines, openingLine, endText, lineText, allText, endTexts, openOnAll, totalLine, closing};
 use book::End;
 use book::Line;
 use paper::Input;
 
 // 'dlpi fates'
-pub fn put_title(out: &mut [u8], at: usize) -> usize
+pub fn put_heading(out: &mut [u8], at: usize) -> usize
     requires { ⌜ at + 11 ≤ length (now out) ⌝ }
-    ensures { λ r. ⌜ (r ≡ at + length title) × (now (out .exit) ≡ paste (now (out .entry)) at title) ⌝ }
+    ensures { λ r. ⌜ (r ≡ at + length heading) × (now (out .exit) ≡ paste (now (out .entry)) at heading) ⌝ }
 {
     text::put_word(out, at, b"dlpi fates\n")
 }
@@ -22,7 +22,7 @@ pub fn put_title(out: &mut [u8], at: usize) -> usize
 // A blank and a number.
 fn put_spaced(out: &mut [u8], at: usize, n: u64) -> usize
     requires { ⌜ at + 21 ≤ length (now out) ⌝ }
-    ensures { λ r. ⌜ (r ≡ at + length (spaced n)) × (now (out .exit) ≡ paste (now (out .entry)) at (spaced n)) ⌝ }
+    ensures { λ r. ⌜ (r ≡ at + length (spacedNumber n)) × (now (out .exit) ≡ paste (now (out .entry)) at (spacedNumber n)) ⌝ }
     ensures { λ r. ⌜ r ≤ at + 21 ⌝ }
 {
     let a = text::put_word(out, at, b" ");
@@ -47,9 +47,9 @@ fn put_numbers(out: &mut [u8], at: usize, register: &[u64], c: usize, k: usize) 
 }
 
 // 'call stream opening call number fate', of the indication in cell c.
-fn put_call(out: &mut [u8], at: usize, register: &[u64], i: usize, c: usize, word: &[u8]) -> usize
+fn put_indication(out: &mut [u8], at: usize, register: &[u64], i: usize, c: usize, word: &[u8]) -> usize
     requires { ⌜ (length (now register) ≡ 408) × (i < 16) × (c + 2 ≤ 408) × (length (now word) ≤ 10) × (at + 100 ≤ length (now out)) ⌝ }
-    ensures { λ r. ⌜ (r ≡ at + length (callLine i c (now (word .entry)) (now (register .entry)))) × (now (out .exit) ≡ paste (now (out .entry)) at (callLine i c (now (word .entry)) (now (register .entry)))) ⌝ }
+    ensures { λ r. ⌜ (r ≡ at + length (indicationLine i c (now (word .entry)) (now (register .entry)))) × (now (out .exit) ≡ paste (now (out .entry)) at (indicationLine i c (now (word .entry)) (now (register .entry)))) ⌝ }
     ensures { λ r. ⌜ r ≤ at + 100 ⌝ }
 {
     let a = text::put_word(out, at, b"call");
@@ -63,19 +63,19 @@ fn put_call(out: &mut [u8], at: usize, register: &[u64], i: usize, c: usize, wor
 // The line of one that ended.
 fn put_ended(out: &mut [u8], at: usize, register: &[u64], i: usize, c: usize, end: End) -> usize
     requires { ⌜ (length (now register) ≡ 408) × (i < 16) × (c + 2 ≤ 408) × (at + 100 ≤ length (now out)) ⌝ }
-    ensures { λ r. ⌜ (r ≡ at + length (callLine i c (wordOf end) (now (register .entry)))) × (now (out .exit) ≡ paste (now (out .entry)) at (callLine i c (wordOf end) (now (register .entry)))) ⌝ }
+    ensures { λ r. ⌜ (r ≡ at + length (indicationLine i c (wordOf end) (now (register .entry)))) × (now (out .exit) ≡ paste (now (out .entry)) at (indicationLine i c (wordOf end) (now (register .entry)))) ⌝ }
     ensures { λ r. ⌜ r ≤ at + 100 ⌝ }
 {
     match end {
-        End::Accepted => put_call(out, at, register, i, c, b" accepted"),
-        End::Denied => put_call(out, at, register, i, c, b" denied"),
-        End::Withdrawn => put_call(out, at, register, i, c, b" withdrawn"),
-        End::Dropped => put_call(out, at, register, i, c, b" dropped"),
+        End::Accepted => put_indication(out, at, register, i, c, b" accepted"),
+        End::Denied => put_indication(out, at, register, i, c, b" denied"),
+        End::Withdrawn => put_indication(out, at, register, i, c, b" withdrawn"),
+        End::Dropped => put_indication(out, at, register, i, c, b" dropped"),
     }
 }
 
 // The lines of those still open, the oldest first.
-fn put_open(out: &mut [u8], at: usize, register: &[u64], i: usize) -> usize
+fn put_still_open(out: &mut [u8], at: usize, register: &[u64], i: usize) -> usize
     requires { ⌜ (length (now register) ≡ 408) × (i < 16) × (at + 800 ≤ length (now out)) ⌝ }
     ensures { λ r. ⌜ (r ≡ at + length (openLines 8 i (i * 24 + 6) (now (register .entry)))) × (now (out .exit) ≡ paste (now (out .entry)) at (openLines 8 i (i * 24 + 6) (now (register .entry)))) ⌝ }
     ensures { λ r. ⌜ r ≤ at + 800 ⌝ }
@@ -87,7 +87,7 @@ fn put_open(out: &mut [u8], at: usize, register: &[u64], i: usize) -> usize
         if register[c] == 0 {
             return e;
         }
-        e = put_call(out, e, register, i, c, b" open");
+        e = put_indication(out, e, register, i, c, b" open");
         c += 2;
         left -= 1;
     }
@@ -116,7 +116,7 @@ pub fn put_end(out: &mut [u8], at: usize, register: &[u64], i: usize) -> usize
     if register[i * 24] == 0 {
         return at;
     }
-    let a = put_open(out, at, register, i);
+    let a = put_still_open(out, at, register, i);
     put_opening(out, a, register, i)
 }
 

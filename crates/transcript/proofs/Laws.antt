@@ -9,7 +9,7 @@ use Rattle.ledger.proofs.Tallies.{chosen, empty}
 use Rattle.octets.specs.Runs.{part}
 use Rattle.text.specs.Digits.{decimal, hex}
 use Rattle.text.proofs.Laws.{decimal-most, hex-length}
-use Rattle.transcript.specs.Transcript.{shownOf, pair, spaced, lineOf, linesOf, wordRefused, wordOpen, wordOk, callText, wordRecords, wordRefusedEnd, totals}
+use Rattle.transcript.specs.Transcript.{shownOf, pair, spaced, recordLine, recordLines, wordRefused, wordOpen, wordOk, callText, wordRecords, wordRefusedEnd, totals}
 use Rattle.paper.specs.RecordsOut.{sizeOut}
 use Rattle.paper.proofs.Sizes.{size-within}
 
@@ -43,8 +43,8 @@ unfolding pair
 pair-most n word m =
     omega (arith, decimal-most n, decimal-most m, length-append (decimal n) word, length-append (decimal n ++ word) (decimal m))
 
-pub line-most : (n : ℕ) (r : List ℕ) → length r ≤ 128 → length (lineOf n r) ≤ 301
-unfolding lineOf
+pub line-most : (n : ℕ) (r : List ℕ) → length r ≤ 128 → length (recordLine n r) ≤ 301
+unfolding recordLine
 line-most n r h =
     let p = pair n (32 ∷ getD r 0 0 ∷ 32 ∷ []) (getD r 1 0) in
     let f = spaced (shownOf r) in
@@ -60,27 +60,27 @@ line-most n r h =
 -- ---- one line behind the other
 
 -- where no bytes are left there are no lines
-pub lines-end : (k n : ℕ) (rs : List ℕ) (i : ℕ) → length rs ≤ i → linesOf k n (drop i rs) ≡ []
-unfolding linesOf
-lines-end k n rs i h = ap (linesOf k n) (drop-of-length-le rs h) ∙ none k where
-  none : (j : ℕ) → linesOf j n [] ≡ []
+pub lines-end : (k n : ℕ) (rs : List ℕ) (i : ℕ) → length rs ≤ i → recordLines k n (drop i rs) ≡ []
+unfolding recordLines
+lines-end k n rs i h = ap (recordLines k n) (drop-of-length-le rs h) ∙ none k where
+  none : (j : ℕ) → recordLines j n [] ≡ []
   none zero = refl
   none (suc j) = refl
 
 -- else the line of the first record, and those of the rest
 pub lines-next : (k n : ℕ) (rs : List ℕ) (i : ℕ) → i < length rs
-    → linesOf (suc k) n (drop i rs) ≡ lineOf n (drop i rs) ++ linesOf k n (drop (i + sizeOut (getD rs i 0)) rs)
-unfolding linesOf
+    → recordLines (suc k) n (drop i rs) ≡ recordLine n (drop i rs) ++ recordLines k n (drop (i + sizeOut (getD rs i 0)) rs)
+unfolding recordLines
 lines-next k n rs i h =
     let e : drop i rs ≡ getD rs i 0 ∷ drop (suc i) rs = drop-cons rs i 0 h in
-    ap (linesOf (suc k) n) e
-    ∙ ap (λ (l : List ℕ). lineOf n l ++ linesOf k n (drop (sizeOut (getD rs i 0)) l)) (sym e)
-    ∙ ap (λ (l : List ℕ). lineOf n (drop i rs) ++ linesOf k n l) (drop-drop (sizeOut (getD rs i 0)) i rs)
+    ap (recordLines (suc k) n) e
+    ∙ ap (λ (l : List ℕ). recordLine n l ++ recordLines k n (drop (sizeOut (getD rs i 0)) l)) (sym e)
+    ∙ ap (λ (l : List ℕ). recordLine n (drop i rs) ++ recordLines k n l) (drop-drop (sizeOut (getD rs i 0)) i rs)
 
 -- ---- how long what is printed of a call can be
 
-pub lines-most : (k n : ℕ) (rs : List ℕ) → length rs ≤ 128 → length (linesOf k n rs) ≤ 151 * length rs + min 150 (150 * length rs)
-unfolding linesOf
+pub lines-most : (k n : ℕ) (rs : List ℕ) → length rs ≤ 128 → length (recordLines k n rs) ≤ 151 * length rs + min 150 (150 * length rs)
+unfolding recordLines
 lines-most zero n rs h = omega arith
 lines-most (suc k) n [] h = omega arith
 lines-most (suc k) n (x ∷ rs) h =
@@ -92,7 +92,7 @@ lines-most (suc k) n (x ∷ rs) h =
       length-drop (sizeOut x) l,
       line-most n l h,
       lines-most k n rest (omega (arith, length-drop (sizeOut x) l)),
-      length-append (lineOf n l) (linesOf k n rest),
+      length-append (recordLine n l) (recordLines k n rest),
     )
 
 pub call-most : (n answer : ℕ) (room : List ℕ) → length room ≤ 128 → length (callText n answer room) ≤ 20000

@@ -25,17 +25,17 @@ spaced [] = []
 spaced (x ∷ l) = (32 ∷ []) ++ hex (x ∷ l)
 
 -- One line for each record out: the call's number, the kind, the stream, the fields in hex.
-unfoldable pub lineOf : ℕ → List ℕ → List ℕ
-lineOf n r = pair n (32 ∷ getD r 0 0 ∷ 32 ∷ []) (getD r 1 0) ++ spaced (shownOf r) ++ (10 ∷ [])
+unfoldable pub recordLine : ℕ → List ℕ → List ℕ
+recordLine n r = pair n (32 ∷ getD r 0 0 ∷ 32 ∷ []) (getD r 1 0) ++ spaced (shownOf r) ++ (10 ∷ [])
 
 -- The lines of records that stand one behind the other, at most so many.
-unfoldable pub linesOf : ℕ → ℕ → List ℕ → List ℕ
-linesOf zero n rs = []
-linesOf (suc k) n [] = []
-linesOf (suc k) n (x ∷ rs) = lineOf n (x ∷ rs) ++ linesOf k n (drop (sizeOut x) (x ∷ rs))
+unfoldable pub recordLines : ℕ → ℕ → List ℕ → List ℕ
+recordLines zero n rs = []
+recordLines (suc k) n [] = []
+recordLines (suc k) n (x ∷ rs) = recordLine n (x ∷ rs) ++ recordLines k n (drop (sizeOut x) (x ∷ rs))
 
 abbrev pub allLines : ℕ → List ℕ → List ℕ
-allLines n rs = linesOf (length rs) n rs
+allLines n rs = recordLines (length rs) n rs
 
 -- ' refused ', ' open ', ' ok'
 abbrev pub wordRefused : List ℕ

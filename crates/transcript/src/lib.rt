@@ -3,7 +3,7 @@ ghost use mathlib.Core.Path.{_≡_};
 ghost use Prim.Native.Nat.{_+_, _≤_};
 ghost use lib.ListN.{length, take};
 ghost use Rattle.octets.specs.Runs.{paste};
-ghost use Rattle.transcript.specs.Transcript.{shownOf, pair, spaced, lineOf, allLines, refusedLine, openLine, okLine, callText, title, totals};
+ghost use Rattle.transcript.specs.Transcript.{shownOf, pair, spaced, recordLine, allLines, refusedLine, openLine, okLine, callText, title, totals};
 
 // What a line shows behind the stream: of a message its bytes up to L, of other kinds the body's other fields.
 fn shown<'a>(r: &'a [u8]) -> &'a [u8]
@@ -39,9 +39,9 @@ fn put_pair(out: &mut [u8], at: usize, n: u64, word: &[u8], m: u64) -> usize
 }
 
 // One line for each record out: the call's number, the kind, the stream, the fields in hex.
-fn put_line(out: &mut [u8], at: usize, n: u64, r: &[u8]) -> usize
+fn put_record(out: &mut [u8], at: usize, n: u64, r: &[u8]) -> usize
     requires { ⌜ (length (now r) ≤ 128) × (at + 308 ≤ length (now out)) ⌝ }
-    ensures { λ e. ⌜ (e ≡ at + length (lineOf n (now (r .entry)))) × (now (out .exit) ≡ paste (now (out .entry)) at (lineOf n (now (r .entry)))) ⌝ }
+    ensures { λ e. ⌜ (e ≡ at + length (recordLine n (now (r .entry)))) × (now (out .exit) ≡ paste (now (out .entry)) at (recordLine n (now (r .entry)))) ⌝ }
 {
     let kind = octets::byte_at(r, 0);
     let stream = octets::byte_at(r, 1);
@@ -51,14 +51,14 @@ fn put_line(out: &mut [u8], at: usize, n: u64, r: &[u8]) -> usize
 }
 
 // The lines of records that stand one behind the other.
-fn put_lines(out: &mut [u8], at: usize, n: u64, rs: &[u8]) -> usize
+fn put_records(out: &mut [u8], at: usize, n: u64, rs: &[u8]) -> usize
     requires { ⌜ (length (now rs) ≤ 128) × (at + 20000 ≤ length (now out)) ⌝ }
     ensures { λ e. ⌜ (e ≡ at + length (allLines n (now (rs .entry)))) × (now (out .exit) ≡ paste (now (out .entry)) at (allLines n (now (rs .entry)))) ⌝ }
 {
     let mut e = at;
     let mut i = 0;
     while i < rs.len() {
-        e = put_line(out, e, n, &rs[i..]);
+        e = put_record(out, e, n, &rs[i..]);
         i += paper::size_out(rs[i]);
     }
     e
@@ -119,7 +119,7 @@ pub fn put_call(out: &mut [u8], at: usize, n: u64, answer: u32, room: &[u8]) -> 
     if written == 0 {
         return put_ok(out, at, n);
     }
-    put_lines(out, at, n, start_of(room, written))
+    put_records(out, at, n, start_of(room, written))
 }
 
 // 'dlpi replay'

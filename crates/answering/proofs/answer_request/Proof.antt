@@ -29,7 +29,7 @@ returns-2 c =
     let a = c .before .before .before .before .before .before .before .before .before .before .before .before .before .before .before .before .before .before .before .before in
     let t = tableOf (now (a .args .img)) in
     c .before .before .before .before .enact2 .ensures
-    ∙ ap (leaving (now (a .args .img)) (now (a .args .room))) (by-row t (a .args .i) (now (a .args .m)) (a .args .code) (a .args .q) _ _ _ (c .before .before .before .before .before .before .before .before .before .before .before .before .before .before .before .load-stream .ensures) (c .before .before .before .before .before .before .before .before .before .before .before .before .before .before .cause-of .ensures) (c .before .before .before .before .before .before .before .before .before .before .before .before .before .row-for .ensures) _ _ _ (c .before .before .before .before .before .before .before .before .before .before .before .found .given .1) (c .before .before .before .before .before .before .before .before .judge-served .ensures) (c .before .before .before .before .before .before .before .effect-by .ensures))
+    ∙ ap (leaving (now (a .args .img)) (now (a .args .room))) (by-row t (a .args .i) (now (a .args .m)) (a .args .code) (a .args .q) _ _ _ (c .before .before .before .before .before .before .before .before .before .before .before .before .before .before .before .load-stream .ensures) (c .before .before .before .before .before .before .before .before .before .before .before .before .before .before .cause-of .ensures) (c .before .before .before .before .before .before .before .before .before .before .before .before .before .row-for .ensures) _ _ _ (c .before .before .before .before .before .before .before .before .before .before .before .found .given .1) (c .before .before .before .before .before .before .before .before .judged-request .ensures) (c .before .before .before .before .before .before .before .effect-by .ensures))
 
 pub answer-request-spec : {M : Type 1} → statement M
 answer-request-spec =

@@ -9,7 +9,7 @@ use Rattle.calls.proofs.is_waiting.Tie as tie
 returns : tie.Need-returns
 returns c =
     let a = c .before .before .before .args in
-    rw (c .place-of .ensures, c .before .count-at .ensures) (has-first (a .n .0) (waiting (tableOf (now (a .img))) (a .i)))
+    rw (c .number-place .ensures, c .before .count-at .ensures) (has-first (a .n .0) (waiting (tableOf (now (a .img))) (a .i)))
 
 pub is-waiting-spec : {M : Type 1} → statement M
 is-waiting-spec = tie.close (tie.spec (λ c κs. search needs) (λ c. search needs) (λ c κs. search needs) returns)

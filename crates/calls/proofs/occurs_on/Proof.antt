@@ -39,7 +39,7 @@ loop-again c =
     let a = l .before .before .before .args in
     let w = waiting (tableOf (now (a .img))) (a .i) in
     let k = l .loop .k in
-    let e = ap (λ (q : Correlation). q .0) (c .before .before .call-at .ensures) in
+    let e = ap (λ (q : Correlation). q .0) (c .before .before .number-at .ensures) in
     let d : occ (a .n) (drop k w) ≡ oneIf (eqb (a .n) (getD w k 0)) + occ (a .n) (drop (k + 1) w) = rw add-one (ap (occ (a .n)) (drop-cons w k 0 (omega arith))) in (
       omega arith,
       ⊎-elim

@@ -24,8 +24,8 @@ abbrev μ-loop : tie.MeasureT-loop
 loop-holds : tie.Need-loop-holds Inv-loop μ-loop
 loop-holds c = (search needs, search needs, search needs, refl)
 
-copy-calls-requires : tie.Need-copy-calls-requires Inv-loop μ-loop
-copy-calls-requires c κs =
+copy-numbers-requires : tie.Need-copy-numbers-requires Inv-loop μ-loop
+copy-numbers-requires c κs =
     let l = c .before .before .loop in
     let s = c .before .before .before .before .before in
     (search needs, search needs, search needs, omega (arith, l .inv .1, l .inv .2, s .pre .1 .shaped .eight (l .i)))
@@ -35,7 +35,7 @@ loop-again c =
     let l = c .before .before .before .before .before .before .loop in
     let s = c .before .before .before .before .before .before .before .before .before in
     let t = tableOf (now (s .args .img)) in
-    let e = c .before .before .before .copy-calls .ensures in
+    let e = c .before .before .before .copy-numbers .ensures in
     let n = c .count-at .ensures in
     let m : length (waiting t (l .i)) ≤ 8 = s .pre .1 .shaped .eight (l .i) in (
       search needs,
@@ -65,7 +65,7 @@ open-numbers-spec =
     Inv-loop
     μ-loop
     loop-holds
-    copy-calls-requires
+    copy-numbers-requires
     (λ c κs. search needs)
     (λ c. search needs)
     (λ c. omega (arith, c .before .before .before .before .before .before .loop .inv .1))

@@ -4,8 +4,8 @@ use borrow.Author.Needs.{needs}
 use Rattle.enacting.proofs.change_stream.Statement.{statement}
 use Rattle.enacting.proofs.change_stream.Tie as tie
 
-take-call-requires : tie.Need-take-call-requires
-take-call-requires c κs = let a = c .before .before .before .before .before .pre in (a .0, a .1, a .2, a .3 (rw (c .before .before .change2 .given .1) refl))
+take-indication-requires : tie.Need-take-indication-requires
+take-indication-requires c κs = let a = c .before .before .before .before .before .pre in (a .0, a .1, a .2, a .3 (rw (c .before .before .change2 .given .1) refl))
 
 returns : tie.Need-returns
 unfolding changed
@@ -16,10 +16,10 @@ unfolding changed
 returns-2 c = rw (c .before .before .before .before .before .change .given .1) (c .before .before .store-stream .ensures)
 
 returns-3 : tie.Need-returns-3
-returns-3 c = rw (c .before .before .before .before .before .change2 .given .1) (c .before .before .take-call .ensures)
+returns-3 c = rw (c .before .before .before .before .before .change2 .given .1) (c .before .before .take-indication .ensures)
 
 returns-4 : tie.Need-returns-4
-returns-4 c = rw (c .before .before .before .before .before .change3 .given .1) (c .before .before .lose-call .ensures)
+returns-4 c = rw (c .before .before .before .before .before .change3 .given .1) (c .before .before .lose-indication .ensures)
 
 pub change-stream-spec : {M : Type 1} → statement M
 change-stream-spec =
@@ -29,7 +29,7 @@ change-stream-spec =
     (λ c. search needs)
     (λ c κs. search needs)
     (λ c. search needs)
-    take-call-requires
+    take-indication-requires
     (λ c. search needs)
     (λ c κs. search needs)
     returns

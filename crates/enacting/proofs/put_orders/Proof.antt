@@ -11,7 +11,7 @@ returns c = rw (c .enum-told .given .1) (omega arith, λ own. (refl, refl))
 
 returns-2 : tie.Need-returns-2
 unfolding ordersIn
-returns-2 c = rw (c .before .before .before .before .before .telling .given .1) (c .before .before .put-order .ensures)
+returns-2 c = rw (c .before .before .before .before .before .telling .given .1) (c .before .before .put-named-order .ensures)
 
 pub put-orders-spec : {M : Type 1} → statement M
 put-orders-spec =

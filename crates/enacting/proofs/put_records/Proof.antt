@@ -14,8 +14,8 @@ use borrow.Author.Needs.{needs}
 use Rattle.enacting.proofs.put_records.Statement.{statement}
 use Rattle.enacting.proofs.put_records.Tie as tie
 
-put-ups-requires : tie.Need-put-ups-requires
-put-ups-requires c κs = let a = c .before .before .before .before .before .before .before .before .before .before .before .before in (a .pre .0, a .pre .1, a .pre .2, search needs)
+put-replies-requires : tie.Need-put-replies-requires
+put-replies-requires c κs = let a = c .before .before .before .before .before .before .before .before .before .before .before .before in (a .pre .0, a .pre .1, a .pre .2, search needs)
 
 returns : tie.Need-returns
 unfolding told
@@ -24,7 +24,7 @@ returns c =
     let t = tableOf (now (a .img)) in
     let o = c .before .before .before .before .before .before .before .before .before .before .put-orders in
     let f = c .before .before .before .before .before .before .put-flush-if in
-    let u = c .before .before .put-ups in
+    let u = c .before .before .put-replies in
     let w = o .ensures .1 (slot t (a .i)) in
     let one = allBytes (ordersIn (a .i) (a .c) (slot t (a .i)) (now (a .m)) (a .e .order)) in
     let two = allBytes (flushIf (a .e .flush) (a .i)) in
@@ -53,7 +53,7 @@ put-records-spec =
     (λ c. search needs)
     (λ c. search needs)
     (λ c. search needs)
-    put-ups-requires
+    put-replies-requires
     (λ c. search needs)
     (λ c. search needs)
     returns)

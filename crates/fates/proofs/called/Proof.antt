@@ -10,7 +10,7 @@ use Rattle.fates.proofs.called.Tie as tie
 returns : tie.Need-returns
 returns c =
     let a = c .before .before .before .before .before .before .before .before .before .before .before .before .before .before .before .before .args in
-    let told = c .before .before .before .before .before .before .before .tell-call .ensures in
+    let told = c .before .before .before .before .before .before .before .call-and-tell .ensures in
     let after = c .after-call .ensures in (
       (after .0 ∙ (λ i. afterCall (now (a .input)) (told .1 .1 .0 i) false (a .t)), after .1),
       (told .0, told .1 .0),

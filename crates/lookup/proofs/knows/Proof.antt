@@ -12,7 +12,7 @@ returns : tie.Need-returns
 unfolding knows
 returns c =
     let a = c .before .before .before .args in
-    rw (c .ppa-total .ensures, c .before .place-of .ensures) (sym (has-first (λ (q : Ppa). q .number .0) (a .p .0) (tableOf (now (a .img)) .ppas)))
+    rw (c .ppa-total .ensures, c .before .ppa-place .ensures) (sym (has-first (λ (q : Ppa). q .number .0) (a .p .0) (tableOf (now (a .img)) .ppas)))
 
 pub knows-spec : {M : Type 1} → statement M
 knows-spec = tie.close (tie.spec (λ c κs. search needs) (λ c κs. search needs) (λ c. search needs) returns)

@@ -14,14 +14,14 @@ use Rattle.lookup.proofs.mac_of.Tie as tie
 
 returns : tie.Need-returns
 unfolding macOf
-returns c = rw (c .mac-at .ensures, c .before .before .before .place-of .ensures)
+returns c = rw (c .mac-at-place .ensures, c .before .before .before .ppa-place .ensures)
 
 returns-2 : tie.Need-returns-2
 unfolding macOf
 returns-2 c =
     let a = c .before .before .before .before .args in
     let l = tableOf (now (a .img)) .ppas in
-    let past : length l ≤ firstOf (λ (q : Ppa). eqb (q .number .0) (a .p .0)) l = omega (arith, c .if1 .left, c .before .ppa-total .ensures, c .before .before .place-of .ensures) in
+    let past : length l ≤ firstOf (λ (q : Ppa). eqb (q .number .0) (a .p .0)) l = omega (arith, c .if1 .left, c .before .ppa-total .ensures, c .before .before .ppa-place .ensures) in
     sym (ap (λ (q : Ppa). q .mac) (List·getD-eq-default l noPpa past))
 
 pub mac-of-spec : {M : Type 1} → statement M

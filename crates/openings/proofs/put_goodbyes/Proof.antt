@@ -20,7 +20,7 @@ returns c =
     let n = c .before .before .before .before in
     let s = n .before .before .state-at in
     let in9 : eqb (numberOf (s .result)) 9 ≡ true = eq-eqb _ 9 (sym (n .before .number-of .ensures) ∙ n .if1 .taken) in
-    rw (← s .ensures, in9) (c .before .before .put-denials .ensures)
+    rw (← s .ensures, in9) (c .before .before .put-drops .ensures)
 
 returns-2 : tie.Need-returns-2
 unfolding goodbyes _⇒_∣_

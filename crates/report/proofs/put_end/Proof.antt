@@ -20,7 +20,7 @@ unfolding endText _⇒_∣_
 returns-2 c =
     let a = c .before .before .before .before .before .before .before .before .before .before .before .before .args in
     let l = now (a .register) in
-    let o = c .before .before .before .before .before .before .put-open .ensures in
+    let o = c .before .before .before .before .before .before .put-still-open .ensures in
     let e = c .before .before .put-opening .ensures in
     rw (ne-eqb _ _ (c .before .before .before .before .before .before .before .before .if1 .left))
     (after (now (a .out)) (a .at) (openLines 8 (a .i) (a .i * 24 + 6) l) (openingLine (a .i) l) (search needs) (o .0) (e .0), omega (arith, o .1, e .1))

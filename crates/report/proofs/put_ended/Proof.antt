@@ -4,16 +4,16 @@ use Rattle.report.proofs.put_ended.Statement.{statement}
 use Rattle.report.proofs.put_ended.Tie as tie
 
 returns : tie.Need-returns
-returns c = rw (c .before .before .before .before .before .enum-told .given .1) (c .before .before .put-call .ensures)
+returns c = rw (c .before .before .before .before .before .enum-told .given .1) (c .before .before .put-indication .ensures)
 
 returns-2 : tie.Need-returns-2
-returns-2 c = rw (c .before .before .before .before .before .enum-told2 .given .1) (c .before .before .put-call2 .ensures)
+returns-2 c = rw (c .before .before .before .before .before .enum-told2 .given .1) (c .before .before .put-indication2 .ensures)
 
 returns-3 : tie.Need-returns-3
-returns-3 c = rw (c .before .before .before .before .before .enum-told3 .given .1) (c .before .before .put-call3 .ensures)
+returns-3 c = rw (c .before .before .before .before .before .enum-told3 .given .1) (c .before .before .put-indication3 .ensures)
 
 returns-4 : tie.Need-returns-4
-returns-4 c = rw (c .before .before .before .before .before .enum-told4 .given .1) (c .before .before .put-call4 .ensures)
+returns-4 c = rw (c .before .before .before .before .before .enum-told4 .given .1) (c .before .before .put-indication4 .ensures)
 
 pub put-ended-spec : {M : Type 1} → statement M
 put-ended-spec =

@@ -5,7 +5,7 @@ use mathlib.Core.Path.{_≡_, refl}
 use denote.Ref.{now}
 use lib.ListN.{length, getD}
 use borrow.Author.Needs.{needs}
-use Rattle.report.specs.Report.{spaced, numbers}
+use Rattle.report.specs.Report.{spacedNumber, numbers}
 use Rattle.report.proofs.Laws.{Coming, all-coming, less-coming, none-coming, numbers-end, numbers-next}
 use Rattle.report.proofs.put_numbers.Statement.{statement}
 use Rattle.report.proofs.put_numbers.Tie as tie
@@ -31,7 +31,7 @@ loop-again c =
       omega arith,
       omega (arith, one .ensures .1),
       search needs,
-      less-coming (spaced (getD g (l .cell) 0)) (numbers (l .left - 1) (l .cell + 1) g) (omega arith) (l .inv .3) (numbers-next (l .left) (l .cell) g (search needs)) (one .ensures .0),
+      less-coming (spacedNumber (getD g (l .cell) 0)) (numbers (l .left - 1) (l .cell + 1) g) (omega arith) (l .inv .3) (numbers-next (l .left) (l .cell) g (search needs)) (one .ensures .0),
     )
 
 returns : tie.Need-returns Inv-loop μ-loop

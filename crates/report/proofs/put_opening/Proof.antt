@@ -6,7 +6,7 @@ use denote.Ref.{now}
 use borrow.Author.Needs.{needs}
 use Rattle.text.proofs.Laws.{after}
 use Rattle.register.specs.Register.{openOn}
-use Rattle.report.specs.Report.{wordOpening, spaced, numbers}
+use Rattle.report.specs.Report.{wordOpening, spacedNumber, numbers}
 use Rattle.report.proofs.put_opening.Statement.{statement}
 use Rattle.report.proofs.put_opening.Tie as tie
 
@@ -15,15 +15,15 @@ returns c =
     let a = c .before .before .before .before .before .before .before .before .before .before .before .before .before .before .before .before .before .before .before .before .before .before .before .before .before .args in
     let l = now (a .register) in
     let o = c .before .before .before .before .before .before .before .before .open-on in
-    let toStream = wordOpening ++ spaced (a .i) in
+    let toStream = wordOpening ++ spacedNumber (a .i) in
     let toEnds = toStream ++ numbers 6 (a .i * 24) l in
-    let toOpen = toEnds ++ spaced (o .result) in
+    let toOpen = toEnds ++ spacedNumber (o .result) in
     let same : o .result ≡ openOn (a .i) l = o .ensures .0 in
     rw (← same) (
       after (now (a .out)) (a .at) toOpen (10 ∷ []) (search needs)
-          (after (now (a .out)) (a .at) toEnds (spaced (o .result)) (search needs)
+          (after (now (a .out)) (a .at) toEnds (spacedNumber (o .result)) (search needs)
           (after (now (a .out)) (a .at) toStream (numbers 6 (a .i * 24) l) (search needs)
-          (after (now (a .out)) (a .at) wordOpening (spaced (a .i)) (search needs)
+          (after (now (a .out)) (a .at) wordOpening (spacedNumber (a .i)) (search needs)
           (c .before .before .before .before .before .before .before .before .before .before .before .before .before .before .before .before .before .before .before .before .put-word .ensures)
           (c .before .before .before .before .before .before .before .before .before .before .before .before .before .before .before .before .put-spaced .ensures .0))
           (c .before .before .before .before .before .before .before .before .before .before .before .before .put-numbers .ensures .0))

@@ -3,7 +3,7 @@ use mathlib.Core.List.{[], _∷_, _++_}
 use denote.Ref.{now}
 use borrow.Author.Needs.{needs}
 use Rattle.text.proofs.Laws.{after}
-use Rattle.report.specs.Report.{wordTotal, spaced, numbers}
+use Rattle.report.specs.Report.{wordTotal, spacedNumber, numbers}
 use Rattle.report.proofs.put_total.Statement.{statement}
 use Rattle.report.proofs.put_total.Tie as tie
 
@@ -13,10 +13,10 @@ returns c =
     let l = now (a .register) in
     let o = c .before .before .before .before .before .before .before .before .open-on-all in
     let toEnds = wordTotal ++ numbers 6 384 l in
-    let toOpen = toEnds ++ spaced (o .result) in
+    let toOpen = toEnds ++ spacedNumber (o .result) in
     rw (← o .ensures) (
       after (now (a .out)) (a .at) toOpen (10 ∷ []) (search needs)
-          (after (now (a .out)) (a .at) toEnds (spaced (o .result)) (search needs)
+          (after (now (a .out)) (a .at) toEnds (spacedNumber (o .result)) (search needs)
           (after (now (a .out)) (a .at) wordTotal (numbers 6 384 l) (search needs)
           (c .before .before .before .before .before .before .before .before .before .before .before .before .before .before .before .before .put-word .ensures)
           (c .before .before .before .before .before .before .before .before .before .before .before .before .put-numbers .ensures .0))
