@@ -2,8 +2,8 @@
 """Replays every capture of captures/ by the definitions, and compares with its expected texts.
 
 For each capture it writes a claim that what the calls come to by `step` (crates/paper), from a fresh table and with 128
-bytes of room, prints as NAME.text (crates/transcript), byte by byte, and where there is a NAME.fates another, that the same
-calls print as that (crates/book, register, report); and has the checker compute them. The claims stand in a crate of their
+bytes of room, prints as NAME.text (crates/replay_transcript), byte by byte, and where there is a NAME.fates another, that the same
+calls print as that (crates/fates_book, register, report); and has the checker compute them. The claims stand in a crate of their
 own below target/definitions/. The last line is 'N passed, M failed'; exit status 1 if a claim fails.
 """
 import importlib.util
@@ -14,7 +14,7 @@ import sys
 
 TOP = pathlib.Path(__file__).resolve().parent.parent
 HERE = TOP / "target/definitions"
-BELOW = ["ledger", "octets", "paper", "records", "text", "transcript", "book", "register", "report"]
+BELOW = ["ledger", "octets", "paper", "wire_records", "text", "replay_transcript", "fates_book", "fates_register", "fates_report"]
 
 CLAIMS = """\
 -- What the definitions come to on the captures.
@@ -31,11 +31,11 @@ use Rattle.paper.specs.Base.{Table, fresh}
 use Rattle.paper.specs.RecordsOut.{allBytes}
 use Rattle.paper.specs.Refusals.{Outcome}
 use Rattle.paper.specs.Step.{step}
-use Rattle.transcript.specs.Transcript.{title, totals}
-use Rattle.book.specs.declared.Line.{Line}
-use Rattle.book.specs.Lines.{linesOf as saidBy}
-use Rattle.register.specs.Register.{blank}
-use Rattle.report.specs.Report.{heading, closing}
+use Rattle.replay_transcript.specs.Transcript.{title, totals}
+use Rattle.fates_book.specs.declared.Line.{Line}
+use Rattle.fates_book.specs.Lines.{linesOf as saidBy}
+use Rattle.fates_register.specs.Register.{blank}
+use Rattle.fates_report.specs.Report.{heading, closing}
 USES
 
 -- the record lent, and what must be printed of its call

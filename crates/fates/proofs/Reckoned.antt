@@ -6,15 +6,15 @@ use mathlib.Core.List.{List, [], _∷_, _++_, append-assoc, append-nil}
 use lib.ListN.{length, getD}
 use native.Mathlib.Omega.{arith}
 use Rattle.ledger.specs.Tally.{has, sumOf, firstOf}
-use Rattle.book.specs.declared.End.{End}
-use Rattle.book.specs.declared.Line.{Line}
-use Rattle.book.specs.Book.{Opening, openOf, openCount, leftOpen, newest, posts, tallies, overStreams}
-use Rattle.book.proofs.Shades.{fairs, rooteds}
-use Rattle.register.specs.Register.{blank, placeOf, openOn, enteredAll}
-use Rattle.register.proofs.Kept.{fine-front, kept-openings, kept-counts, kept-open, kept-all-openings, kept-all-counts, found-place, found-number}
-use Rattle.register.proofs.Places.{asked}
-use Rattle.register.proofs.Whole.{over-same}
-use Rattle.report.specs.Report.{spacedNumber, numbers, wordOf, wordCall, wordOpening, wordTotal, indicationLine, openingLine, openOnAll, totalLine}
+use Rattle.fates_book.specs.declared.End.{End}
+use Rattle.fates_book.specs.declared.Line.{Line}
+use Rattle.fates_book.specs.Book.{Opening, openOf, openCount, leftOpen, newest, posts, tallies, overStreams}
+use Rattle.fates_book.proofs.Shades.{fairs, rooteds}
+use Rattle.fates_register.specs.Register.{blank, placeOf, openOn, enteredAll}
+use Rattle.fates_register.proofs.Kept.{fine-front, kept-openings, kept-counts, kept-open, kept-all-openings, kept-all-counts, found-place, found-number}
+use Rattle.fates_register.proofs.Places.{asked}
+use Rattle.fates_register.proofs.Whole.{over-same}
+use Rattle.fates_report.specs.Report.{spacedNumber, numbers, wordOf, wordCall, wordOpening, wordTotal, indicationLine, openingLine, openOnAll, totalLine}
 use Rattle.promises.specs.History.{Answered, lines, fates, indicated, accepted, denied, withdrawn, dropped}
 use Rattle.promises.specs.Harness.{Harness, heardIn}
 use Rattle.promises.proofs.Harness.{agreed, fair-heard}

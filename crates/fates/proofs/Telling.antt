@@ -9,11 +9,11 @@ use borrow.Author.Tests.{lt-ltb}
 use Rattle.ledger.specs.Choice.{_⇒_∣_}
 use Rattle.ledger.proofs.Tallies.{at-all}
 use Rattle.paper.specs.Base.{fresh}
-use Rattle.image.specs.Layout.{imageOf, soundImage}
-use Rattle.outcomes.specs.Leaving.{callMade}
-use Rattle.outcomes.specs.Fresh.{freshOf}
-use Rattle.book.specs.declared.Line.{Line}
-use Rattle.register.specs.Register.{blank, entered, enteredAll}
+use Rattle.table_image.specs.Layout.{imageOf, soundImage}
+use Rattle.call_outcomes.specs.Leaving.{callMade}
+use Rattle.call_outcomes.specs.Fresh.{freshOf}
+use Rattle.fates_book.specs.declared.Line.{Line}
+use Rattle.fates_register.specs.Register.{blank, entered, enteredAll}
 use Rattle.promises.specs.History.{saidBy, lines}
 use Rattle.promises.specs.Harness.{Lending, imageAfter, heard, Harness, heardIn, nextIn, andThen}
 use Rattle.keeping.specs.Soundness.{Bytes}

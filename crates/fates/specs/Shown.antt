@@ -5,10 +5,10 @@ use lib.ListN.{length}
 use Rattle.ledger.specs.Choice.{both}
 use Rattle.ledger.specs.Tally.{sumOf, firstOf}
 use lib.Dec.{eqb}
-use Rattle.book.specs.declared.End.{End}
-use Rattle.book.specs.declared.End.the-variants.{Accepted, Denied, Withdrawn, Dropped}
-use Rattle.book.specs.Book.{Indication, Opening, isStillOpen, openCount, newest, countOf, tallies, overStreams}
-use Rattle.report.specs.Report.{wordCall, wordOpening, wordTotal, wordOf, spacedNumber}
+use Rattle.fates_book.specs.declared.End.{End}
+use Rattle.fates_book.specs.declared.End.the-variants.{Accepted, Denied, Withdrawn, Dropped}
+use Rattle.fates_book.specs.Book.{Indication, Opening, isStillOpen, openCount, newest, countOf, tallies, overStreams}
+use Rattle.fates_report.specs.Report.{wordCall, wordOpening, wordTotal, wordOf, spacedNumber}
 use Rattle.promises.specs.History.{Answered, lines, fates, indicated, accepted, denied, withdrawn, dropped, leftOpenIn}
 
 -- an opening's line: which opening of its stream, and its counts

@@ -3,10 +3,10 @@ use Prim.Native.Nat.{ℕ}
 use mathlib.Core.Path.{_≡_}
 use mathlib.Core.List.{List}
 use lib.ListN.{take}
-use Rattle.outcomes.specs.Leaving.{Left, tokenIn, writtenIn}
-use Rattle.book.specs.declared.Line.{Line}
-use Rattle.book.specs.Lines.{linesOf}
-use Rattle.register.specs.Register.{blank, enteredAll}
+use Rattle.call_outcomes.specs.Leaving.{Left, tokenIn, writtenIn}
+use Rattle.fates_book.specs.declared.Line.{Line}
+use Rattle.fates_book.specs.Lines.{linesOf}
+use Rattle.fates_register.specs.Register.{blank, enteredAll}
 use Rattle.promises.specs.History.{lines}
 use Rattle.promises.specs.Harness.{Harness, imageIn, heardIn}
 

@@ -5,10 +5,10 @@ use mathlib.Core.List.{List}
 use lib.ListN.{length}
 use Rattle.ledger.specs.Choice.{_⇒_∣_}
 use Rattle.octets.specs.Runs.{paste}
-use Rattle.outcomes.specs.Leaving.{Left, callMade}
-use Rattle.book.specs.declared.Line.{Line}
-use Rattle.register.specs.Register.{enteredAll}
-use Rattle.report.specs.Report.{allText}
+use Rattle.call_outcomes.specs.Leaving.{Left, callMade}
+use Rattle.fates_book.specs.declared.Line.{Line}
+use Rattle.fates_register.specs.Register.{enteredAll}
+use Rattle.fates_report.specs.Report.{allText}
 use Rattle.turns.specs.Turns.{unread, waits, isOver, stopping, afterCall}
 use Rattle.turns.specs.declared.Turn.{Turn}
 use Rattle.fates.specs.Told.{linesBy}

@@ -3,10 +3,10 @@ ghost use mathlib.Core.Path.{_≡_};
 ghost use Prim.Native.Nat.{_+_, _<_, _≤_};
 ghost use lib.ListN.{length};
 ghost use Rattle.octets.specs.Runs.{paste};
-ghost use Rattle.register.specs.Register.{enteredAll};
-ghost use Rattle.report.specs.Report.{allText};
+ghost use Rattle.fates_register.specs.Register.{enteredAll};
+ghost use Rattle.fates_report.specs.Report.{allText};
 ghost use Rattle.turns.specs.Turns.{Fine, Ready};
-ghost use Rattle.outcomes.specs.Leaving.{callMade};
+ghost use Rattle.call_outcomes.specs.Leaving.{callMade};
 ghost use Rattle.fates.specs.Told.{Told, linesBy};
 ghost use Rattle.fates.specs.Turns.{callOn, linesOn, textOn, called, turnAfter, tableAfter, registerAfter, outputAfter};
 use turns::Turn;
@@ -25,8 +25,8 @@ fn call_and_tell(
     ensures { λ r. ⌜ (r ≡ at + length (allText (linesBy (now (bytes .entry)) (callMade (now (table .entry)) (now (bytes .entry)))) (now (register .entry)))) × (r ≤ at + 20000) ⌝ }
 {
     let mut room = [0u8; 128];
-    let answer = engine::call_sound(table, bytes, &mut room);
-    report::tell_call(register, out, at, bytes, answer, &room)
+    let answer = call_engine::call_sound(table, bytes, &mut room);
+    fates_report::tell_call(register, out, at, bytes, answer, &room)
 }
 
 // The call on what is not read yet, and its text behind what is printed already.
@@ -107,11 +107,11 @@ fn run(
 // last line, so that what was printed is not taken for the whole.
 fn main() {
     let mut table = [0u8; 760];
-    image::make_fresh(&mut table);
+    table_image::make_fresh(&mut table);
     let mut register = [0u64; 408];
     let mut input = io::large_buffer();
     let mut output = io::large_buffer();
-    let title = report::put_heading(&mut output, 0);
+    let title = fates_report::put_heading(&mut output, 0);
     let first = turns::first_turn(title);
     let last = run(&mut table, &mut register, &mut input, &mut output, first);
     let d = turns::drained(&output, last);
@@ -121,7 +121,7 @@ fn main() {
         io::write_all(2, b"fates: reading or writing failed\n");
         return;
     }
-    let end = report::put_closing(&mut output, filled, &register);
+    let end = fates_report::put_closing(&mut output, filled, &register);
     if !io::write_all(1, &output[0..end]) {
         io::write_all(2, b"fates: reading or writing failed\n");
     }

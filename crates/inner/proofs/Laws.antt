@@ -10,7 +10,7 @@ use Rattle.ledger.specs.Choice.{_⇒_∣_}
 use Rattle.ledger.specs.Tally.{oneIf}
 use Rattle.ledger.proofs.Tallies.{chosen, skip}
 use Rattle.paper.specs.RecordsIn.{recordSize}
-use Rattle.outcomes.specs.Leaving.{callMade, isRefused}
+use Rattle.call_outcomes.specs.Leaving.{callMade, isRefused}
 use Rattle.inner.specs.Run.{Ran, ran, passed, runFrom}
 
 pub passed-some : (bytes : List ℕ) → 0 < length bytes → 0 < passed bytes

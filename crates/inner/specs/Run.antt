@@ -7,8 +7,8 @@ use Rattle.ledger.specs.Choice.{_⇒_∣_}
 use Rattle.ledger.specs.Tally.{oneIf}
 use Rattle.paper.specs.Base.{fresh}
 use Rattle.paper.specs.RecordsIn.{recordSize}
-use Rattle.image.specs.Layout.{imageOf}
-use Rattle.outcomes.specs.Leaving.{callMade, isRefused}
+use Rattle.table_image.specs.Layout.{imageOf}
+use Rattle.call_outcomes.specs.Leaving.{callMade, isRefused}
 
 -- The number that a run gives, and the image that it leaves.
 pub record Ran : Type 0 where

@@ -4,8 +4,8 @@ ghost use mathlib.Core.Path.{_≡_};
 ghost use mathlib.Core.Bool.{true};
 ghost use Prim.Native.Nat.{_<_, _≤_};
 ghost use lib.ListN.{length};
-ghost use Rattle.image.specs.Layout.{soundImage};
-ghost use Rattle.outcomes.specs.Leaving.{callMade, isRefused};
+ghost use Rattle.table_image.specs.Layout.{soundImage};
+ghost use Rattle.call_outcomes.specs.Leaving.{callMade, isRefused};
 ghost use Rattle.inner.specs.Run.{ran, passed, runFrom, runOf};
 
 const NO_TABLE: u64 = 0xffffffffffffffff;
@@ -17,7 +17,7 @@ fn one_call(table: &mut [u8], bytes: &[u8]) -> bool
     ensures { λ r. ⌜ r ≡ isRefused (callMade (now (table .entry)) (now (bytes .entry))) ⌝ }
 {
     let mut room = [0u8; 128];
-    let answer = engine::call_sound(table, bytes, &mut room);
+    let answer = call_engine::call_sound(table, bytes, &mut room);
     0 < answer / 65536 % 256
 }
 
@@ -26,7 +26,7 @@ fn passed(bytes: &[u8]) -> usize
     requires { ⌜ 0 < length (now bytes) ⌝ }
     ensures { λ n. ⌜ (n ≡ passed (now (bytes .entry))) × (0 < n) × (n ≤ length (now (bytes .entry))) ⌝ }
 {
-    let size = records::record_size(bytes);
+    let size = wire_records::record_size(bytes);
     if size == 0 {
         return bytes.len();
     }
@@ -58,6 +58,6 @@ pub extern "C" fn inner_run(table: &mut [u8], capture: &[u8]) -> u64
     if table.len() != 760 {
         return NO_TABLE;
     }
-    image::make_fresh(table);
+    table_image::make_fresh(table);
     run(table, capture)
 }

@@ -11,12 +11,12 @@ use borrow.Author.Tests.{eqb-true, eq-eqb, ltb-true, ne-eqb}
 use Rattle.ledger.specs.Choice.{pick}
 use Rattle.ledger.specs.Tally.{occ, has}
 use Rattle.ledger.proofs.Tallies.{chosen, empty}
-use Rattle.book.specs.declared.Line.{Line}
-use Rattle.book.specs.declared.Line.the-variants.{Went}
-use Rattle.book.specs.Lines.{parting}
+use Rattle.fates_book.specs.declared.Line.{Line}
+use Rattle.fates_book.specs.declared.Line.the-variants.{Went}
+use Rattle.fates_book.specs.Lines.{parting}
 use Rattle.ledger.proofs.Sums.{sum-at}
-use Rattle.book.proofs.Shades.{silent, Silent, silence, Taken, emptied, untouched, ungranted}
-use Rattle.book.proofs.Said.{lineOf}
+use Rattle.fates_book.proofs.Shades.{silent, Silent, silence, Taken, emptied, untouched, ungranted}
+use Rattle.fates_book.proofs.Said.{lineOf}
 use Rattle.paper.specs.Base.{isIn, Slot, closed, Table, slot, stream, waiting, ppaNumbers, withSlot}
 use Rattle.paper.specs.RecordsOut.{Record}
 use Rattle.paper.specs.Refusals.{served}

@@ -11,10 +11,10 @@ use borrow.Author.Tests.{ltb-false, not-true}
 use Rattle.ledger.specs.Choice.{both, either}
 use Rattle.ledger.specs.Tally.{has}
 use Rattle.ledger.proofs.Tallies.{both-of, picked}
-use Rattle.book.specs.declared.Line.{Line}
-use Rattle.book.specs.declared.Line.the-variants.{Given}
-use Rattle.book.proofs.Shades.{silent}
-use Rattle.book.proofs.Said.{lineOf, said}
+use Rattle.fates_book.specs.declared.Line.{Line}
+use Rattle.fates_book.specs.declared.Line.the-variants.{Given}
+use Rattle.fates_book.proofs.Shades.{silent}
+use Rattle.fates_book.proofs.Said.{lineOf, said}
 use Rattle.paper.specs.Base.{numberOf, number, isIn, boundStates, connectionStates, attachedIn, settled, Table, slot, stream, waiting, ppaNumbers, knows, macAt}
 use Rattle.paper.specs.Saps.{grantOf}
 use Rattle.paper.specs.Refusals.{Outcome}

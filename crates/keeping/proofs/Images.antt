@@ -21,13 +21,13 @@ use Rattle.paper.specs.Sound.{sound}
 use Rattle.paper.specs.Step.{step}
 use Rattle.paper.specs.declared.Ppa.{Ppa}
 use Rattle.paper.proofs.StateNumbers.{in-every}
-use Rattle.image.specs.Layout.{ppaBase, slotBase, listed, ppaFrom, waitingFrom, slotAt, ppaAt, tableOf, joined, ppaBytes, streamBytes, waitingBytes, slotBytes, headerBytes, imageOf, isState, tidySlot, slotParts, tidyPpas, tidy, soundImage}
-use Rattle.image.specs.Shape.{Shaped}
-use Rattle.image.proofs.Joined.{each-listed}
-use Rattle.image.proofs.Shapes.{ppas-length, image-length}
-use Rattle.image.proofs.TableBack.{slot-part, table-back}
-use Rattle.image.proofs.TidyImage.{tidy-parts, shaped-table}
-use Rattle.outcomes.specs.Leaving.{Left, leaving, callOf}
+use Rattle.table_image.specs.Layout.{ppaBase, slotBase, listed, ppaFrom, waitingFrom, slotAt, ppaAt, tableOf, joined, ppaBytes, streamBytes, waitingBytes, slotBytes, headerBytes, imageOf, isState, tidySlot, slotParts, tidyPpas, tidy, soundImage}
+use Rattle.table_image.specs.Shape.{Shaped}
+use Rattle.table_image.proofs.Joined.{each-listed}
+use Rattle.table_image.proofs.Shapes.{ppas-length, image-length}
+use Rattle.table_image.proofs.TableBack.{slot-part, table-back}
+use Rattle.table_image.proofs.TidyImage.{tidy-parts, shaped-table}
+use Rattle.call_outcomes.specs.Leaving.{Left, leaving, callOf}
 use Rattle.keeping.specs.Soundness.{Bytes, Sound}
 use Rattle.keeping.proofs.Lent.{shaped, image-bytes}
 use Rattle.keeping.proofs.NextNumber.{counter-small}

@@ -8,11 +8,11 @@ use lib.ListN.{length, getD, replicate}
 use borrow.Author.Tests.{not-true}
 use Rattle.ledger.specs.Tally.{has, allOf, firstOf, free, nextFrom}
 use Rattle.ledger.proofs.Tallies.{both-of, to-both, picked, first-holds}
-use Rattle.book.specs.declared.End.the-variants.{Denied, Withdrawn}
-use Rattle.book.specs.declared.Line.the-variants.{Nothing}
+use Rattle.fates_book.specs.declared.End.the-variants.{Denied, Withdrawn}
+use Rattle.fates_book.specs.declared.Line.the-variants.{Nothing}
 use Rattle.ledger.proofs.Sums.{of-asks}
-use Rattle.image.proofs.Joined.{part-length}
-use Rattle.calls.proofs.Next.{next-free}
+use Rattle.table_image.proofs.Joined.{part-length}
+use Rattle.table_numbers.proofs.Next.{next-free}
 use Rattle.paper.specs.Base.{number, Slot, closed, Table, fresh, slot, stream, waiting, lowestFree, tokenOf, ppaNumbers, knows, withPpa}
 use Rattle.paper.specs.Saps.{listens}
 use Rattle.paper.specs.RecordsIn.{inputOf}

@@ -12,7 +12,7 @@ use Rattle.ledger.specs.Choice.{pick}
 use Rattle.ledger.specs.Tally.{oneIf, occ, has, free}
 use Rattle.ledger.proofs.Tallies.{both-of, picked}
 use Rattle.ledger.proofs.Sums.{occ-append, sum-put}
-use Rattle.image.proofs.Joined.{each-set, each-more}
+use Rattle.table_image.proofs.Joined.{each-set, each-more}
 use Rattle.paper.specs.Base.{numberOf, isIn, boundStates, noStream, inState, attachedIn, settled, Slot, closed, justOpened, Table, slot, stream, waiting, ppaNumbers, noPpa, withSlot, withNumbers, withStream, withCounter, withPpa, remembering}
 use Rattle.paper.specs.Saps.{listens}
 use Rattle.paper.specs.Correlations.{occurrences}

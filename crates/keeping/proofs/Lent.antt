@@ -21,8 +21,8 @@ use Rattle.paper.specs.declared.State.{State}
 use Rattle.paper.specs.declared.Stream.{Stream}
 use Rattle.paper.specs.declared.Ppa.{Ppa}
 use Rattle.paper.proofs.StateNumbers.{each-number}
-use Rattle.image.specs.Layout.{padTo, joined, maskOf, ppaBytes, streamBytes, waitingBytes, slotBytes, headerBytes, imageOf, areBytes}
-use Rattle.image.specs.Shape.{Shaped}
+use Rattle.table_image.specs.Layout.{padTo, joined, maskOf, ppaBytes, streamBytes, waitingBytes, slotBytes, headerBytes, imageOf, areBytes}
+use Rattle.table_image.specs.Shape.{Shaped}
 use Rattle.keeping.specs.Soundness.{Sound}
 use Rattle.keeping.proofs.Changes.{eight}
 

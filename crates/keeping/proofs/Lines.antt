@@ -6,10 +6,10 @@ use mathlib.Core.Bool.{Bool, true, false}
 use mathlib.Core.List.{List, [], _∷_, _++_, map}
 use Rattle.ledger.specs.Choice.{both}
 use Rattle.ledger.proofs.Tallies.{both-of, to-both}
-use Rattle.book.specs.declared.Line.{Line}
-use Rattle.book.specs.declared.Line.the-variants.{Nothing}
-use Rattle.book.proofs.Shades.{isNothing, silent}
-use Rattle.book.proofs.Said.{orderLine, replyLine, lineOf}
+use Rattle.fates_book.specs.declared.Line.{Line}
+use Rattle.fates_book.specs.declared.Line.the-variants.{Nothing}
+use Rattle.fates_book.proofs.Shades.{isNothing, silent}
+use Rattle.fates_book.proofs.Said.{orderLine, replyLine, lineOf}
 use Rattle.paper.specs.Base.{Slot}
 use Rattle.paper.specs.RecordsOut.{flushIf, inOrder}
 use Rattle.paper.specs.Effects.{namedBy, ordersIn, upsIn, told}

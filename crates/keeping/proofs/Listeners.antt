@@ -11,11 +11,11 @@ use lib.Dec.{eqb, ltb}
 use borrow.Author.Tests.{eqb-true, ltb-true, lt-ltb, not-true}
 use Rattle.ledger.specs.Tally.{occ, has, without, free}
 use Rattle.ledger.proofs.Tallies.{both-of, within, empty, length-without, length-without-le}
-use Rattle.book.specs.declared.End.{End}
-use Rattle.book.specs.declared.End.the-variants.{Accepted}
-use Rattle.book.specs.declared.Line.{Line}
-use Rattle.book.specs.declared.Line.the-variants.{Came, Went}
-use Rattle.book.proofs.Shades.{silent}
+use Rattle.fates_book.specs.declared.End.{End}
+use Rattle.fates_book.specs.declared.End.the-variants.{Accepted}
+use Rattle.fates_book.specs.declared.Line.{Line}
+use Rattle.fates_book.specs.declared.Line.the-variants.{Came, Went}
+use Rattle.fates_book.proofs.Shades.{silent}
 use Rattle.ledger.proofs.Sums.{occ-without}
 use Rattle.paper.specs.Base.{numberOf, stateOf, number, isIn, isAmong, boundStates, connectionStates, inState, settled, Slot, closed, Table, slot, stream, waiting, ppaNumbers, withSlot, withNumbers}
 use Rattle.paper.specs.Correlations.{occurrences, onePast}

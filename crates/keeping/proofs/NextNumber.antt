@@ -7,9 +7,9 @@ use mathlib.Core.Bool.{true}
 use mathlib.Core.List.{List}
 use Rattle.ledger.specs.Tally.{free}
 use Rattle.paper.specs.Correlations.{occurrences, nextNumber}
-use Rattle.image.specs.Layout.{tableOf, tidy}
-use Rattle.image.proofs.TidyImage.{Tidy, tidy-parts, shaped-table}
-use Rattle.calls.proofs.Next.{next-free}
+use Rattle.table_image.specs.Layout.{tableOf, tidy}
+use Rattle.table_image.proofs.TidyImage.{Tidy, tidy-parts, shaped-table}
+use Rattle.table_numbers.proofs.Next.{next-free}
 
 -- the counter has four bytes
 pub counter-small : (img : List ℕ) → tidy img ≡ true → tableOf img .counter < 2 ^ 32

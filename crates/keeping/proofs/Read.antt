@@ -11,7 +11,7 @@ use borrow.Author.Tests.{leb-true}
 use Rattle.ledger.proofs.Tallies.{chosen}
 use Rattle.octets.specs.Numbers.{be32At}
 use Rattle.octets.specs.Runs.{part}
-use Rattle.image.proofs.Joined.{each-take}
+use Rattle.table_image.proofs.Joined.{each-take}
 use Rattle.paper.specs.RecordsIn.{kindOf, sizeOf, recordSize, inputAs, inputOf}
 use Rattle.paper.specs.declared.Kind.{Kind}
 use Rattle.paper.specs.declared.Kind.the-variants as kind

@@ -12,11 +12,11 @@ use borrow.Author.Tests.{eqb-true, eqb-false, eq-eqb, lt-ltb}
 use Rattle.ledger.specs.Choice.{pick}
 use Rattle.ledger.specs.Tally.{has, without}
 use Rattle.ledger.proofs.Tallies.{to-both, within, picked}
-use Rattle.book.specs.declared.End.{End}
-use Rattle.book.specs.declared.Line.{Line}
-use Rattle.book.specs.declared.Line.the-variants.{Began, Came, Went, Given}
-use Rattle.book.specs.Book.{grantBy}
-use Rattle.book.proofs.Shades.{silent, shade, shades, fairs, rooteds, openingsIn, Silent, silence, Taken}
+use Rattle.fates_book.specs.declared.End.{End}
+use Rattle.fates_book.specs.declared.Line.{Line}
+use Rattle.fates_book.specs.declared.Line.the-variants.{Began, Came, Went, Given}
+use Rattle.fates_book.specs.Book.{grantBy}
+use Rattle.fates_book.proofs.Shades.{silent, shade, shades, fairs, rooteds, openingsIn, Silent, silence, Taken}
 use Rattle.ledger.proofs.Sums.{there, put-in, put-same, put-cases}
 use Rattle.paper.specs.Base.{isAmong, boundStates, Slot, closed, justOpened, Table, slot, stream, waiting, withSlot, withNumbers, withStream, withCounter, remembering}
 use Rattle.paper.specs.declared.Stream.{Stream}

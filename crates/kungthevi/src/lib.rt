@@ -1,9 +1,9 @@
 // The C face: numbers and byte slices only, and nothing asked of the caller. A slice is a pointer and a length.
 ghost use mathlib.Core.Path.{_≡_};
 ghost use Rattle.paper.specs.RecordsIn.{recordSize};
-ghost use Rattle.outcomes.specs.Leaving.{left, callOf};
-ghost use Rattle.outcomes.specs.Fresh.{made, freshOf};
-use outcomes::NOT_SOUND;
+ghost use Rattle.call_outcomes.specs.Leaving.{left, callOf};
+ghost use Rattle.call_outcomes.specs.Fresh.{made, freshOf};
+use call_outcomes::NOT_SOUND;
 
 // Makes a fresh table: 0, or 16 where the length is wrong, and then the bytes stay as they stood.
 #[no_mangle]
@@ -13,7 +13,7 @@ pub extern "C" fn kungthevi_fresh(table: &mut [u8]) -> u32
     if table.len() != 760 {
         return NOT_SOUND as u32;
     }
-    image::make_fresh(table);
+    table_image::make_fresh(table);
     0
 }
 
@@ -23,7 +23,7 @@ pub extern "C" fn kungthevi_fresh(table: &mut [u8]) -> u32
 pub extern "C" fn kungthevi_call(table: &mut [u8], bytes: &[u8], room: &mut [u8]) -> u32
     ensures { λ n. ⌜ left n (now (table .exit)) (now (room .exit)) ≡ callOf (now (table .entry)) (now (bytes .entry)) (now (room .entry)) ⌝ }
 {
-    engine::call(table, bytes, room)
+    call_engine::call(table, bytes, room)
 }
 
 // How far reading goes on behind the record at the start of the bytes: its size, or 0 where reading ends there.
@@ -31,5 +31,5 @@ pub extern "C" fn kungthevi_call(table: &mut [u8], bytes: &[u8], room: &mut [u8]
 pub extern "C" fn kungthevi_record_size(bytes: &[u8]) -> u32
     ensures { λ n. ⌜ n ≡ recordSize (now (bytes .entry)) ⌝ }
 {
-    records::record_size(bytes) as u32
+    wire_records::record_size(bytes) as u32
 }

@@ -22,7 +22,7 @@ P l content = (80 ∷ 0 ∷ l ∷ []) ++ pad content
 abbrev pub C : ℕ → List ℕ → List ℕ
 C l content = (67 ∷ 0 ∷ l ∷ []) ++ pad content
 
--- the PPA's MAC, the address of stream 0 once boundStream, and the peer's
+-- the PPA's MAC, the address of stream 0 once bound, and the peer's
 abbrev pub mac : List ℕ
 mac = 2 ∷ 0 ∷ 0 ∷ 0 ∷ 0 ∷ 1 ∷ []
 
@@ -67,7 +67,7 @@ acceptMessage n = P 24 (flat (0x0f ∷ n ∷ 0 ∷ 0 ∷ 0 ∷ 0 ∷ []))
 -- ---- records out
 
 -- INFO_ACK in order: 1497, 0, address length, 0, 0, state, SAP length, mode, 0, 0, 0, 0, 0x0501, address offset, 2, 6,
--- broadcast offset, 0; then the address if boundStream, then six bytes of 0xff.
+-- broadcast offset, 0; then the address if bound, then six bytes of 0xff.
 abbrev pub infoAckUnattached : List ℕ
 infoAckUnattached =
     C 82 (flat (0x03 ∷ 1497 ∷ 0 ∷ 0 ∷ 0 ∷ 0 ∷ 0 ∷ 0 ∷ 3 ∷ 0 ∷ 0 ∷ 0 ∷ 0 ∷ 0x0501 ∷ 0 ∷ 2 ∷ 6 ∷ 76 ∷ 0 ∷ []) ++ replicate 6 0xff)

@@ -10,10 +10,10 @@ use Rattle.ledger.proofs.Tallies.{all-at}
 use Rattle.paper.specs.Base.{isAmong, boundStates, Slot, Table, fresh, slot, stream, waiting}
 use Rattle.paper.specs.StateRows.{stateRows}
 use Rattle.paper.specs.Step.{step}
-use Rattle.book.specs.declared.Line.{Line}
-use Rattle.book.specs.Book.{Opening, openOf, newest, posts, leftOpen, tallies, countIn, grantBy}
-use Rattle.book.proofs.Shades.{shades, fairs, rooteds, openingsIn, open-posts, left-posts, posts-append, tallies-append, grant-append, fairs-append, rooteds-append}
-use Rattle.book.proofs.Counts.{count-posts}
+use Rattle.fates_book.specs.declared.Line.{Line}
+use Rattle.fates_book.specs.Book.{Opening, openOf, newest, posts, leftOpen, tallies, countIn, grantBy}
+use Rattle.fates_book.proofs.Shades.{shades, fairs, rooteds, openingsIn, open-posts, left-posts, posts-append, tallies-append, grant-append, fairs-append, rooteds-append}
+use Rattle.fates_book.proofs.Counts.{count-posts}
 use Rattle.keeping.specs.Soundness.{Bytes, Sound}
 use Rattle.promises.specs.History.{saidBy, lines, fates, grantedBy}
 use Rattle.promises.proofs.Runs.{Call, answeredBy, run, history}

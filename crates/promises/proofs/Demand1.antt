@@ -12,8 +12,8 @@ use Rattle.ledger.proofs.Tallies.{chosen, both-of}
 use Rattle.paper.specs.Refusals.{notSound}
 use Rattle.paper.specs.Sound.{sound}
 use Rattle.paper.specs.Step.{stepBy, step}
-use Rattle.image.specs.Layout.{tableOf, tidy, soundImage}
-use Rattle.outcomes.specs.Leaving.{Left, left, refusing, refusalIn, leaving, callOf}
+use Rattle.table_image.specs.Layout.{tableOf, tidy, soundImage}
+use Rattle.call_outcomes.specs.Leaving.{Left, left, refusing, refusalIn, leaving, callOf}
 use Rattle.keeping.proofs.Images.{lent-sound}
 use borrow.Author.Tests.{ltb-false, not-true}
 use Rattle.promises.proofs.Refused.{refusal-small}

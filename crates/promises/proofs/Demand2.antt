@@ -28,9 +28,9 @@ use Rattle.paper.specs.declared.Rule.{Rule}
 use Rattle.paper.specs.declared.Service.{Service}
 use Rattle.paper.specs.declared.Verdict.the-variants.{Serves, Fails}
 use Rattle.paper.proofs.Walk.{Sent, Way, refusing, answering, walk, step-by}
-use Rattle.image.specs.Layout.{tableOf, tidy, soundImage}
-use Rattle.image.proofs.ImageBack.{image-back}
-use Rattle.outcomes.specs.Leaving.{Left}
+use Rattle.table_image.specs.Layout.{tableOf, tidy, soundImage}
+use Rattle.table_image.proofs.ImageBack.{image-back}
+use Rattle.call_outcomes.specs.Leaving.{Left}
 use Rattle.promises.specs.Answers.{errorsTold, Complete, verdictOf, hasRow, offersBusy}
 use Rattle.promises.specs.Harness.{Lending, leftOn, cameBack}
 use Rattle.promises.specs.History.{Answered}

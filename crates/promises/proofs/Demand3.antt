@@ -12,10 +12,10 @@ use Rattle.paper.specs.StateRows.{stateRows}
 use Rattle.paper.specs.Step.{step}
 use Rattle.paper.specs.declared.Asked.the-variants.{For}
 use Rattle.paper.specs.ErrorOrder.{verdictOn}
-use Rattle.book.specs.Book.{Opening, openCount, tallies, countIn, openOf, newest, posts, countOf, howMany}
+use Rattle.fates_book.specs.Book.{Opening, openCount, tallies, countIn, openOf, newest, posts, countOf, howMany}
 use Rattle.promises.proofs.Named.{names-accept, names-denial, open-denied}
-use Rattle.book.specs.declared.End.the-variants.{Accepted, Denied, Withdrawn, Dropped}
-use Rattle.book.proofs.Counts.{count-at, all-counted, met-counted, sums, none-left}
+use Rattle.fates_book.specs.declared.End.the-variants.{Accepted, Denied, Withdrawn, Dropped}
+use Rattle.fates_book.proofs.Counts.{count-at, all-counted, met-counted, sums, none-left}
 use Rattle.ledger.specs.Tally.{occ, has, allOf}
 use Rattle.paper.specs.Base.{number, isIn, boundStates, Slot, closed, fresh, slot, stream, waiting, ppaNumbers, Table}
 use Rattle.paper.specs.Correlations.{occurrences}
@@ -37,11 +37,11 @@ use Rattle.keeping.proofs.Changes.{quiet}
 use Rattle.keeping.proofs.Kept.{fresh-sound}
 use Rattle.keeping.proofs.Tested.{sound-test}
 use lib.Dec.{eqb}
-use Rattle.image.specs.Layout.{soundImage}
-use Rattle.book.specs.declared.End.{End}
-use Rattle.book.specs.declared.Line.{Line}
-use Rattle.book.specs.declared.Line.the-variants.{Went}
-use Rattle.book.proofs.Shades.{fairs, open-posts, went-open}
+use Rattle.table_image.specs.Layout.{soundImage}
+use Rattle.fates_book.specs.declared.End.{End}
+use Rattle.fates_book.specs.declared.Line.{Line}
+use Rattle.fates_book.specs.declared.Line.the-variants.{Went}
+use Rattle.fates_book.proofs.Shades.{fairs, open-posts, went-open}
 use Rattle.promises.specs.Harness.{Lending, Harness, imageIn, tableIn, heardIn, CompleteIn, errorsHeard}
 use Rattle.keeping.specs.Soundness.{Sound}
 use Rattle.promises.proofs.Harness.{fair-heard, callsOf, image-is, history-is, agreed, errors-heard}

@@ -32,16 +32,16 @@ use Rattle.paper.specs.declared.Request.the-variants as request
 use Rattle.paper.proofs.Fair.{acceptsHere, acceptsOn, denies, disconnects}
 use Rattle.paper.proofs.Walk.{Answered, failing, serving, arriving, Way, refusing, closing, bringing, step-walk}
 use Rattle.paper.proofs.Walk as walk
-use Rattle.book.specs.declared.End.{End}
-use Rattle.book.specs.declared.End.the-variants.{Accepted, Denied, Withdrawn, Dropped}
-use Rattle.book.specs.declared.Line.{Line}
-use Rattle.book.specs.declared.Line.the-variants.{Came, Went, Given}
-use Rattle.book.specs.Lines.{telling}
-use Rattle.book.specs.Book.{countOf, tallies, stillOpen, met, Opening, noIndication, mark, newest, onNewest, posts, noted}
-use Rattle.book.proofs.Counts.{ends-counted, ring-counted}
-use Rattle.book.proofs.Marks.{marked}
-use Rattle.book.proofs.Said.{lineOf, said}
-use Rattle.book.proofs.Telling.{posts-telling, tally-telling, concerns, others-post, others-tally, none-ends, none-comes}
+use Rattle.fates_book.specs.declared.End.{End}
+use Rattle.fates_book.specs.declared.End.the-variants.{Accepted, Denied, Withdrawn, Dropped}
+use Rattle.fates_book.specs.declared.Line.{Line}
+use Rattle.fates_book.specs.declared.Line.the-variants.{Came, Went, Given}
+use Rattle.fates_book.specs.Lines.{telling}
+use Rattle.fates_book.specs.Book.{countOf, tallies, stillOpen, met, Opening, noIndication, mark, newest, onNewest, posts, noted}
+use Rattle.fates_book.proofs.Counts.{ends-counted, ring-counted}
+use Rattle.fates_book.proofs.Marks.{marked}
+use Rattle.fates_book.proofs.Said.{lineOf, said}
+use Rattle.fates_book.proofs.Telling.{posts-telling, tally-telling, concerns, others-post, others-tally, none-ends, none-comes}
 use Rattle.promises.specs.History.{saidBy, lines, fates, openBy, counted, accepted, denied, withdrawn, dropped}
 use Rattle.promises.specs.Harness.{Lending, Harness, tableIn, heardIn, nextIn, andThen, CompleteIn, errorsHeard}
 use Rattle.keeping.specs.Soundness.{Sound}

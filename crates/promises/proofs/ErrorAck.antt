@@ -9,9 +9,9 @@ use Rattle.ledger.proofs.Tallies.{chosen}
 use Rattle.paper.specs.Base.{Table}
 use Rattle.paper.specs.StateRows.{stateRows}
 use Rattle.paper.specs.Step.{step}
-use Rattle.image.specs.Layout.{tableOf, imageOf}
-use Rattle.image.proofs.ImageBack.{image-back}
-use Rattle.outcomes.specs.Leaving.{Left, leaving, callOf}
+use Rattle.table_image.specs.Layout.{tableOf, imageOf}
+use Rattle.table_image.proofs.ImageBack.{image-back}
+use Rattle.call_outcomes.specs.Leaving.{Left, leaving, callOf}
 use Rattle.promises.proofs.Orderly.{orderly}
 use Rattle.promises.proofs.Written.{errorsIn}
 

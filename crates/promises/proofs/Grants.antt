@@ -17,11 +17,11 @@ use Rattle.paper.specs.declared.BindRequest.{BindRequest}
 use Rattle.paper.specs.declared.Request.the-variants as request
 use Rattle.paper.proofs.Fair.{binds}
 use Rattle.paper.proofs.Walk.{Answered, failing, serving}
-use Rattle.book.specs.declared.Line.{Line}
-use Rattle.book.specs.declared.Line.the-variants.{Given}
-use Rattle.book.specs.Lines.{telling}
-use Rattle.book.specs.Book.{grantBy}
-use Rattle.book.proofs.Telling.{grant-telling}
+use Rattle.fates_book.specs.declared.Line.{Line}
+use Rattle.fates_book.specs.declared.Line.the-variants.{Given}
+use Rattle.fates_book.specs.Lines.{telling}
+use Rattle.fates_book.specs.Book.{grantBy}
+use Rattle.fates_book.proofs.Telling.{grant-telling}
 use Rattle.promises.specs.History.{saidBy, grantedBy, opensStream}
 use Rattle.promises.specs.Harness.{Lending, Harness, tableIn, heardIn, nextIn, andThen, CompleteIn, errorsHeard}
 use Rattle.promises.proofs.Endings.{Tells, heard-answered, message-says}

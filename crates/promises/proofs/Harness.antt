@@ -15,12 +15,12 @@ use Rattle.paper.specs.Base.{Table, fresh}
 use Rattle.paper.specs.RecordsOut.{allBytes}
 use Rattle.paper.specs.Refusals.{Outcome, refused}
 use Rattle.paper.specs.Step.{step}
-use Rattle.image.specs.Layout.{tableOf, imageOf}
-use Rattle.image.proofs.TableBack.{table-back}
-use Rattle.outcomes.specs.Leaving.{Left, left, refusing, writing, refusalIn, tokenIn, writtenIn, leaving, callOf}
-use Rattle.outcomes.specs.Fresh.{Made, freshOf}
-use Rattle.book.specs.Book.{posts, tallies, grantBy}
-use Rattle.book.proofs.Shades.{posts-append, tallies-append, grant-append, fairs, rooteds}
+use Rattle.table_image.specs.Layout.{tableOf, imageOf}
+use Rattle.table_image.proofs.TableBack.{table-back}
+use Rattle.call_outcomes.specs.Leaving.{Left, left, refusing, writing, refusalIn, tokenIn, writtenIn, leaving, callOf}
+use Rattle.call_outcomes.specs.Fresh.{Made, freshOf}
+use Rattle.fates_book.specs.Book.{posts, tallies, grantBy}
+use Rattle.fates_book.proofs.Shades.{posts-append, tallies-append, grant-append, fairs, rooteds}
 use Rattle.promises.specs.Answers.{errorsTold}
 use Rattle.promises.proofs.Written.{errorsIn}
 use Rattle.keeping.specs.Soundness.{Sound}
@@ -34,8 +34,8 @@ use Rattle.promises.proofs.Refused.{refusal-is-all, sound-not-sixteen}
 use Rattle.keeping.proofs.Kept.{fresh-sound}
 use Rattle.keeping.proofs.Tested.{sound-test}
 use Rattle.promises.proofs.Whole.{room-enough, read-step, told-step}
-use Rattle.book.specs.declared.Line.{Line}
-use Rattle.book.proofs.Said.{said}
+use Rattle.fates_book.specs.declared.Line.{Line}
+use Rattle.fates_book.proofs.Said.{said}
 use Rattle.paper.specs.RecordsIn.{inputOf}
 
 -- On the image of a sound table the call for C is the step of that table.

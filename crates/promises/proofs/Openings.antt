@@ -11,13 +11,13 @@ use borrow.Author.Tests.{eqb-true, eqb-false, eq-eqb, ne-eqb}
 use Rattle.ledger.specs.Choice.{pick}
 use Rattle.ledger.specs.Tally.{oneIf}
 use Rattle.ledger.proofs.Tallies.{picked}
-use Rattle.book.specs.declared.End.the-variants.{Withdrawn}
-use Rattle.book.specs.declared.Line.{Line}
-use Rattle.book.specs.declared.Line.the-variants.{Began, Went, Nothing}
-use Rattle.book.specs.Book.{earlier, posts, tallies}
-use Rattle.book.specs.Lines.{parting, openingLines}
-use Rattle.book.proofs.Said.{orderLine, replyLine, lineOf}
-use Rattle.book.proofs.Shades.{openings, openingsIn, openings-append, length-posts, earlier-posts}
+use Rattle.fates_book.specs.declared.End.the-variants.{Withdrawn}
+use Rattle.fates_book.specs.declared.Line.{Line}
+use Rattle.fates_book.specs.declared.Line.the-variants.{Began, Went, Nothing}
+use Rattle.fates_book.specs.Book.{earlier, posts, tallies}
+use Rattle.fates_book.specs.Lines.{parting, openingLines}
+use Rattle.fates_book.proofs.Said.{orderLine, replyLine, lineOf}
+use Rattle.fates_book.proofs.Shades.{openings, openingsIn, openings-append, length-posts, earlier-posts}
 use Rattle.paper.specs.Base.{Slot, Table, fresh, slot}
 use Rattle.paper.specs.RecordsIn.{inputOf}
 use Rattle.paper.specs.RecordsOut.{Record, order, flush, up}

@@ -13,10 +13,10 @@ use borrow.Author.Tests.{eqb-true, eqb-false, eq-eqb, ne-eqb, lt-ltb}
 use Rattle.ledger.specs.Choice.{both, either}
 use Rattle.ledger.specs.Tally.{occ, has}
 use Rattle.ledger.proofs.Tallies.{chosen, to-both, both-none, within}
-use Rattle.image.proofs.Joined.{part-length}
-use Rattle.book.specs.declared.End.the-variants.{Denied, Withdrawn, Dropped}
-use Rattle.book.specs.declared.Line.the-variants.{Went}
-use Rattle.book.specs.Lines.{isMessageOf, mayBeSaid}
+use Rattle.table_image.proofs.Joined.{part-length}
+use Rattle.fates_book.specs.declared.End.the-variants.{Denied, Withdrawn, Dropped}
+use Rattle.fates_book.specs.declared.Line.the-variants.{Went}
+use Rattle.fates_book.specs.Lines.{isMessageOf, mayBeSaid}
 use Rattle.ledger.proofs.Sums.{put-same}
 use Rattle.paper.specs.Base.{Slot, closed, justOpened, Table, slot, stream, waiting, lowestFree, tokenOf, ppaNumbers, macOf, macAt, withSlot, withNumbers, withStream, withCounter, withPpa, remembering}
 use Rattle.paper.specs.Effects.{changed, carried, enacted, ordersIn, behindReply, upsIn, told, errorEffect, effectOf, eventEffect}

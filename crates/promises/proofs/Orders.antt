@@ -12,9 +12,9 @@ use Rattle.ledger.specs.Choice.{pick, either}
 use Rattle.ledger.specs.Tally.{has, allOf}
 use Rattle.ledger.proofs.Tallies.{to-both, both-of}
 use Rattle.octets.specs.Numbers.{be32At}
-use Rattle.book.specs.Lines.{asker, recordsIn, openingLines, mayBeSaid}
-use Rattle.book.proofs.ReadBack.{starts, told-apart}
-use Rattle.book.proofs.Said.{lineOf}
+use Rattle.fates_book.specs.Lines.{asker, recordsIn, openingLines, mayBeSaid}
+use Rattle.fates_book.proofs.ReadBack.{starts, told-apart}
+use Rattle.fates_book.proofs.Said.{lineOf}
 use Rattle.paper.specs.Base.{Table, waiting}
 use Rattle.paper.specs.RecordsIn.{inputOf}
 use Rattle.paper.specs.RecordsOut.{Record, order, flush, up, bytesOf, allBytes}

@@ -7,7 +7,7 @@ use Rattle.paper.specs.Base.{Table}
 use Rattle.paper.specs.RecordsOut.{allBytes}
 use Rattle.paper.specs.Refusals.{Outcome}
 use Rattle.paper.specs.Step.{step}
-use Rattle.image.specs.Layout.{areBytes}
+use Rattle.table_image.specs.Layout.{areBytes}
 use Rattle.promises.specs.History.{Answered}
 
 -- a call: the bytes lent and the room's length

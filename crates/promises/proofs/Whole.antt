@@ -5,11 +5,11 @@ use mathlib.Core.List.{List, [], _∷_, _++_, map, append-nil}
 use lib.ListN.{length}
 use native.Mathlib.Omega.{arith}
 use Rattle.ledger.specs.Choice.{_⇒_∣_}
-use Rattle.image.specs.Layout.{joined}
-use Rattle.book.specs.declared.Line.{Line}
-use Rattle.book.specs.Lines.{lineAt, openingLines, linesOf}
-use Rattle.book.proofs.Said.{said}
-use Rattle.book.proofs.ReadBack.{AllSized, starts, told-apart, lines-said}
+use Rattle.table_image.specs.Layout.{joined}
+use Rattle.fates_book.specs.declared.Line.{Line}
+use Rattle.fates_book.specs.Lines.{lineAt, openingLines, linesOf}
+use Rattle.fates_book.proofs.Said.{said}
+use Rattle.fates_book.proofs.ReadBack.{AllSized, starts, told-apart, lines-said}
 use Rattle.paper.specs.Base.{Table}
 use Rattle.paper.specs.RecordsIn.{inputOf}
 use Rattle.paper.specs.RecordsOut.{Record, order, flush, up, bytesOf, allBytes}

@@ -11,7 +11,7 @@ use Rattle.ledger.specs.Choice.{pick, either}
 use Rattle.ledger.specs.Tally.{has}
 use Rattle.ledger.proofs.Tallies.{picked}
 use Rattle.octets.specs.Runs.{part}
-use Rattle.outcomes.proofs.Laws.{part-most}
+use Rattle.call_outcomes.proofs.Laws.{part-most}
 use Rattle.paper.specs.Base.{isAmong, toldStates, Slot, Table, waiting}
 use Rattle.paper.specs.RecordsIn.{calledIn, callingIn}
 use Rattle.paper.specs.RecordsOut.{Record, order, flush, up, flushIf, inOrder, bytesOf, allBytes}
@@ -35,12 +35,12 @@ use Rattle.paper.specs.declared.Stream.{Stream}
 use Rattle.paper.specs.declared.Telling.{Telling}
 use Rattle.paper.specs.declared.Telling.the-variants.{Untold, Tells}
 use Rattle.paper.specs.declared.Token.{Token}
-use Rattle.book.specs.Lines.{asker, mayBeSaid}
-use Rattle.book.specs.declared.End.{End}
-use Rattle.book.specs.declared.Line.{Line}
-use Rattle.book.specs.declared.Line.the-variants.{Went, Nothing}
-use Rattle.book.proofs.Said.{replyLine, lineOf}
-use Rattle.book.proofs.ReadBack.{Sized, AllSized, up-size}
+use Rattle.fates_book.specs.Lines.{asker, mayBeSaid}
+use Rattle.fates_book.specs.declared.End.{End}
+use Rattle.fates_book.specs.declared.Line.{Line}
+use Rattle.fates_book.specs.declared.Line.the-variants.{Went, Nothing}
+use Rattle.fates_book.proofs.Said.{replyLine, lineOf}
+use Rattle.fates_book.proofs.ReadBack.{Sized, AllSized, up-size}
 
 -- ---- the errors that records tell, by their content
 

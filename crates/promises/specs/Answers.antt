@@ -15,9 +15,9 @@ use Rattle.paper.specs.RecordsIn.{inputOf, messageIn}
 use Rattle.paper.specs.StateRows.{found}
 use Rattle.paper.specs.Sight.{requestAsks, carrierOf}
 use Rattle.paper.specs.ErrorOrder.{verdictOn}
-use Rattle.image.specs.Layout.{joined}
+use Rattle.table_image.specs.Layout.{joined}
 use Rattle.paper.specs.RecordsOut.{isMessage}
-use Rattle.book.specs.Lines.{recordsIn}
+use Rattle.fates_book.specs.Lines.{recordsIn}
 use Rattle.paper.specs.declared.Input.the-variants as input
 use Rattle.paper.specs.declared.Asked.the-variants.{For}
 use Rattle.paper.specs.declared.Request.{Request}

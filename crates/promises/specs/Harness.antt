@@ -6,9 +6,9 @@ use mathlib.Core.Bool.{true}
 use mathlib.Core.List.{List, [], _∷_, _++_}
 use lib.ListN.{length, take}
 use Rattle.paper.specs.Base.{Table}
-use Rattle.image.specs.Layout.{tableOf, areBytes}
-use Rattle.outcomes.specs.Leaving.{Left, refusalIn, tokenIn, writtenIn, callOf}
-use Rattle.outcomes.specs.Fresh.{freshOf}
+use Rattle.table_image.specs.Layout.{tableOf, areBytes}
+use Rattle.call_outcomes.specs.Leaving.{Left, refusalIn, tokenIn, writtenIn, callOf}
+use Rattle.call_outcomes.specs.Fresh.{freshOf}
 use Rattle.paper.specs.declared.Request.{Request}
 use Rattle.promises.specs.Answers.{errorsTold, Complete}
 use Rattle.promises.specs.History.{Answered}

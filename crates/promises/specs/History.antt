@@ -8,10 +8,10 @@ use lib.Dec.{eqb}
 use Rattle.ledger.specs.Choice.{pick, both, either}
 use Rattle.octets.specs.Numbers.{be32At}
 use Rattle.ledger.specs.Tally.{oneIf, has, sumOf}
-use Rattle.book.specs.declared.End.the-variants.{Accepted, Denied, Withdrawn, Dropped}
-use Rattle.book.specs.declared.Line.{Line}
-use Rattle.book.specs.Lines.{linesOf}
-use Rattle.book.specs.Book.{Opening, openOf, openCount, newest, posts, countOf, tallies, grantBy}
+use Rattle.fates_book.specs.declared.End.the-variants.{Accepted, Denied, Withdrawn, Dropped}
+use Rattle.fates_book.specs.declared.Line.{Line}
+use Rattle.fates_book.specs.Lines.{linesOf}
+use Rattle.fates_book.specs.Book.{Opening, openOf, openCount, newest, posts, countOf, tallies, grantBy}
 
 -- what came back of a call: the bytes lent to it; the refusal number, or the stream's token where one was opened and the bytes of
 -- the records written

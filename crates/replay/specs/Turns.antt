@@ -4,7 +4,7 @@ use mathlib.Core.List.{List}
 use lib.ListN.{length}
 use Rattle.ledger.specs.Choice.{_⇒_∣_}
 use Rattle.octets.specs.Runs.{paste}
-use Rattle.outcomes.specs.Leaving.{Left, callMade, isRefused}
+use Rattle.call_outcomes.specs.Leaving.{Left, callMade, isRefused}
 use Rattle.turns.specs.Turns.{unread, waits, isOver, stopping, afterCall}
 use Rattle.turns.specs.declared.Turn.{Turn}
 use Rattle.replay.specs.Printed.{printed}

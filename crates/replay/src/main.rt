@@ -4,9 +4,9 @@ ghost use mathlib.Core.Bool.{true};
 ghost use Prim.Native.Nat.{_+_, _<_, _≤_};
 ghost use lib.ListN.{length};
 ghost use Rattle.octets.specs.Runs.{paste};
-ghost use Rattle.image.specs.Layout.{soundImage};
+ghost use Rattle.table_image.specs.Layout.{soundImage};
 ghost use Rattle.turns.specs.Turns.{Fine, Ready};
-ghost use Rattle.outcomes.specs.Leaving.{callMade, isRefused};
+ghost use Rattle.call_outcomes.specs.Leaving.{callMade, isRefused};
 ghost use Rattle.replay.specs.Printed.{printed};
 ghost use Rattle.replay.specs.Turns.{callOn, textOn, called, turnAfter, tableAfter, outputAfter};
 use turns::Turn;
@@ -26,8 +26,8 @@ fn replay_call(table: &mut [u8], bytes: &[u8], out: &mut [u8], at: usize, n: u64
     ensures { λ r. ⌜ r .refused ≡ isRefused (callMade (now (table .entry)) (now (bytes .entry))) ⌝ }
 {
     let mut room = [0u8; 128];
-    let answer = engine::call_sound(table, bytes, &mut room);
-    let end = transcript::put_call(out, at, n, answer, &room);
+    let answer = call_engine::call_sound(table, bytes, &mut room);
+    let end = replay_transcript::put_call(out, at, n, answer, &room);
     Printed {
         end,
         refused: 0 < answer / 65536 % 256,
@@ -100,10 +100,10 @@ fn run(table: &mut [u8], input: &mut [u8], output: &mut [u8], t0: Turn) -> Turn
 // what was printed is not taken for the whole.
 fn main() {
     let mut table = [0u8; 760];
-    image::make_fresh(&mut table);
+    table_image::make_fresh(&mut table);
     let mut input = io::large_buffer();
     let mut output = io::large_buffer();
-    let title = transcript::put_title(&mut output, 0);
+    let title = replay_transcript::put_title(&mut output, 0);
     let first = turns::first_turn(title);
     let last = run(&mut table, &mut input, &mut output, first);
     let d = turns::drained(&output, last);
@@ -113,7 +113,7 @@ fn main() {
         io::write_all(2, b"replay: reading or writing failed\n");
         return;
     }
-    let end = transcript::put_totals(&mut output, filled, d.calls, d.refused);
+    let end = replay_transcript::put_totals(&mut output, filled, d.calls, d.refused);
     if !io::write_all(1, &output[0..end]) {
         io::write_all(2, b"replay: reading or writing failed\n");
     }

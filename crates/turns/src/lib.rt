@@ -150,7 +150,7 @@ pub fn after_call(input: &[u8], filled: usize, refused: bool, t: Turn) -> Turn
 {
     let start = t.start;
     let end = t.end;
-    let size = records::record_size(&input[start..end]);
+    let size = wire_records::record_size(&input[start..end]);
     Turn {
         start: start + size,
         end,

@@ -6,9 +6,9 @@ use denote.Ref.{now}
 use lib.ListN.{length}
 use borrow.Author.Needs.{needs}
 use Rattle.octets.specs.Runs.{paste}
-use Rattle.outcomes.specs.Leaving.{Left}
-use Rattle.register.specs.Register.{enteredAll}
-use Rattle.report.specs.Report.{allText}
+use Rattle.call_outcomes.specs.Leaving.{Left}
+use Rattle.fates_register.specs.Register.{enteredAll}
+use Rattle.fates_report.specs.Report.{allText}
 use Rattle.fates.specs.Told.{linesBy}
 use Rattle.fates.proofs.Telling.{told-next, told-sound}
 use Rattle.fates.proofs.call_and_tell.Statement.{statement}

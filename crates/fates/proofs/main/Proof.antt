@@ -3,7 +3,7 @@ use mathlib.Core.Path.{sym, subst}
 use mathlib.Core.List.{List}
 use borrow.Author.Needs.{needs}
 use Prim.Native.Nat.{ℕ}
-use Rattle.register.specs.Register.{blank}
+use Rattle.fates_register.specs.Register.{blank}
 use Rattle.fates.specs.Told.{Told}
 use Rattle.fates.proofs.Telling.{told-first}
 use Rattle.fates.proofs.main.Statement.{statement}

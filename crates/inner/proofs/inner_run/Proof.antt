@@ -4,7 +4,7 @@ use borrow.Author.Needs.{needs}
 use borrow.Author.Tests.{eq-eqb, ne-eqb}
 use Rattle.ledger.specs.Choice.{_⇒_∣_}
 use Rattle.inner.specs.Run.{runOf}
-use Rattle.image.specs.Layout.{soundImage}
+use Rattle.table_image.specs.Layout.{soundImage}
 use Rattle.keeping.proofs.Images.{fresh-image}
 use Rattle.inner.proofs.inner_run.Statement.{statement}
 use Rattle.inner.proofs.inner_run.Tie as tie

@@ -8,8 +8,8 @@ use denote.Ref.{now}
 use lib.Dec.{ltb}
 use lib.ListN.{replicate}
 use borrow.Author.Needs.{needs}
-use Rattle.image.specs.Layout.{soundImage}
-use Rattle.outcomes.specs.Leaving.{Left}
+use Rattle.table_image.specs.Layout.{soundImage}
+use Rattle.call_outcomes.specs.Leaving.{Left}
 use Rattle.keeping.proofs.Images.{call-keeps}
 use Rattle.inner.proofs.one_call.Statement.{statement}
 use Rattle.inner.proofs.one_call.Tie as tie

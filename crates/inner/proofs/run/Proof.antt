@@ -10,7 +10,7 @@ use lib.Seq.{take-all}
 use borrow.Author.Needs.{needs}
 use Rattle.ledger.specs.Tally.{oneIf}
 use Rattle.ledger.proofs.Tallies.{one-most}
-use Rattle.image.specs.Layout.{soundImage}
+use Rattle.table_image.specs.Layout.{soundImage}
 use Rattle.inner.specs.Run.{runFrom}
 use Rattle.inner.proofs.Laws.{Ahead, ahead-more, ahead-none}
 use Rattle.inner.proofs.run.Statement.{statement}

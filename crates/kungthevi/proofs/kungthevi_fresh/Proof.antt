@@ -1,7 +1,7 @@
 use mathlib.Core.Path.{ap}
 use borrow.Author.Tests.{eq-eqb, ne-eqb}
 use Rattle.ledger.specs.Choice.{_⇒_∣_}
-use Rattle.outcomes.specs.Fresh.{made, freshOf}
+use Rattle.call_outcomes.specs.Fresh.{made, freshOf}
 use borrow.Author.Needs.{needs}
 use Rattle.kungthevi.proofs.kungthevi_fresh.Statement.{statement}
 use Rattle.kungthevi.proofs.kungthevi_fresh.Tie as tie

@@ -1,7 +1,7 @@
 -- `replay::main` starts from a sound table.
 use mathlib.Core.Path.{ap, _∙_}
 use borrow.Author.Needs.{needs}
-use Rattle.image.specs.Layout.{soundImage}
+use Rattle.table_image.specs.Layout.{soundImage}
 use Rattle.keeping.proofs.Images.{fresh-image}
 use Rattle.replay.proofs.main.Statement.{statement}
 use Rattle.replay.proofs.main.Tie as tie

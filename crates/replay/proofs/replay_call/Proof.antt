@@ -7,9 +7,9 @@ use lib.Dec.{ltb}
 use lib.ListN.{length, replicate}
 use borrow.Author.Needs.{needs}
 use Rattle.octets.specs.Runs.{paste}
-use Rattle.image.specs.Layout.{soundImage}
-use Rattle.outcomes.specs.Leaving.{Left}
-use Rattle.transcript.proofs.Laws.{call-most}
+use Rattle.table_image.specs.Layout.{soundImage}
+use Rattle.call_outcomes.specs.Leaving.{Left}
+use Rattle.replay_transcript.proofs.Laws.{call-most}
 use Rattle.replay.specs.Printed.{printed}
 use Rattle.keeping.proofs.Images.{call-keeps}
 use Rattle.replay.proofs.replay_call.Statement.{statement}

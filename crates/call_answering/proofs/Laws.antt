@@ -1,0 +1,90 @@
+-- What comes to a stream is decided by its state row: with the row known, the decision is what is enacted.
+use Prim.Native.Nat.{ℕ, _+_}
+use native.Mathlib.Numerals.{add-one}
+use mathlib.Core.Path.{_≡_, refl, sym, ap, ap₂, _∙_}
+use mathlib.Core.Bool.{true, false, false≢true}
+use mathlib.Core.List.{List}
+use lib.Dec.{eqb}
+use Rattle.ledger.proofs.Tallies.{picked}
+use Rattle.paper.specs.Base.{Table, slot, stream, macAt}
+use Rattle.paper.specs.RecordsOut.{inOrder}
+use Rattle.paper.specs.Refusals.{Outcome, served}
+use Rattle.paper.specs.StateRows.{stateRows, found}
+use Rattle.paper.specs.Sight.{Question, nothing, sends, requestAsks, sightBy}
+use Rattle.paper.specs.Effects.{changed, carried, enacted, ordersIn, upsIn, told, onward, unchanged, effectOf, errorEffect}
+use Rattle.paper.specs.Decide.{does, effectBy, decideBy}
+use Rattle.paper.specs.Step.{enact, comes}
+use Rattle.paper.specs.declared.Token.{Token}
+use Rattle.paper.specs.declared.Stream.{Stream}
+use Rattle.paper.specs.declared.Rule.{Rule}
+use Rattle.paper.specs.declared.Rule.the-variants as rule
+use Rattle.paper.specs.declared.Service.the-variants as service
+use Rattle.paper.specs.declared.Verdict.{Verdict}
+use Rattle.paper.specs.declared.Verdict.the-variants.{Serves, Fails}
+use Rattle.paper.specs.declared.Request.{Request}
+use Rattle.paper.specs.declared.Asked.the-variants.{For, Wrong}
+use Rattle.paper.specs.declared.StateRow.{StateRow}
+use Rattle.paper.specs.declared.Found.{Found}
+use Rattle.paper.specs.declared.Found.the-variants.{At, Missing}
+use Rattle.paper.specs.declared.Change.{Change}
+use Rattle.paper.specs.declared.Change.the-variants.{Stays}
+use Rattle.paper.specs.declared.Effect.{Effect}
+use Rattle.call_enacting.specs.Takes.{takes}
+use Rattle.call_answering.specs.Judging.{RightlyJudged}
+use Rattle.call_answering.specs.declared.Judged.{Judged}
+
+module _ (t : Table) (i : ℕ) (m : List ℕ) (code : ℕ) where
+  -- an effect, where stream c carries
+  abbrev pub doing : ℕ → Effect → Outcome
+  doing c e = served (enacted t i c m e) (told i c (slot t i) (macAt t i) m e)
+
+  -- an error is the same whoever would carry
+  error-enacted : (f : Found) (w : Question) (r : Rule) → doing i (errorEffect code r) ≡ enact t i m (sightBy t i f w) (does (errorEffect code r))
+  unfolding enact enacted changed carried told inOrder ordersIn upsIn
+  error-enacted f w r = refl
+
+  pub wrong : (r : Rule) (e : Effect) → e ≡ errorEffect code r → doing i e ≡ comes stateRows t i m (sends code (Wrong r))
+  unfolding comes decideBy
+  wrong r e z = ap (doing i) z ∙ error-enacted (found stateRows (stream t i) code) nothing r
+
+  -- a request, by the row that was found
+  module _ (q : Request) (s : Stream) (n : ℕ) (f : Found) (es : s ≡ stream t i) (en : n ≡ requestAsks q .cause) (ef : f ≡ found stateRows s n) where
+    by-found : (g : Found) → f ≡ g
+        → enact t i m (sightBy t i g (requestAsks q .question)) (decideBy (sightBy t i g (requestAsks q .question)) (sends code (For q)) g) ≡ comes stateRows t i m (sends code (For q))
+    unfolding comes
+    by-found g h =
+        ap (λ (g : Found). enact t i m (sightBy t i g (requestAsks q .question)) (decideBy (sightBy t i g (requestAsks q .question)) (sends code (For q)) g))
+        (sym h ∙ ef ∙ ap₂ (λ (s : Stream) (n : ℕ). found stateRows s n) es en)
+
+    pub no-row : (e : Effect) → f ≡ Missing → e ≡ errorEffect code rule.NoRow → doing i e ≡ comes stateRows t i m (sends code (For q))
+    unfolding decideBy
+    no-row e h z = ap (doing i) z ∙ error-enacted Missing (requestAsks q .question) rule.NoRow ∙ by-found Missing h
+
+    pub by-row : (x : StateRow) (r : Judged) (e : Effect) → f ≡ At x → RightlyJudged t i q r → e ≡ effectBy x (record { 0 = i + 1 }) code s (r .verdict)
+        → doing (r .carrier) e ≡ comes stateRows t i m (sends code (For q))
+    unfolding enact decideBy
+    by-row x r e h j z = rw (z, j x .0, j x .1, es, add-one) (by-found (At x) h)
+
+-- ---- no message takes an open indication
+
+pub no-place : {P : Type 0} (e w : Effect) → e ≡ w → takes (w .change) ≡ false → takes (e .change) ≡ true → P
+no-place e w z h k = absurd (false≢true (sym h ∙ ap (λ (e : Effect). takes (e .change)) (sym z) ∙ k))
+
+unchanged-takes : (x : StateRow) (s : Stream) → takes (unchanged x s) ≡ false
+unchanged-takes x s = picked (λ (c : Change). takes c ≡ false) (eqb (x .to) (x .from)) Stays (onward x s) (λ e. refl) (λ e. refl)
+
+pub message-takes : (x : StateRow) (k : Token) (code : ℕ) (s : Stream) (v : Verdict) → takes (effectBy x k code s v .change) ≡ false
+unfolding effectBy effectOf
+message-takes x k code s (Fails r) = refl
+message-takes x k code s (Serves service.Inform) = unchanged-takes x s
+message-takes x k code s (Serves service.TellToken) = unchanged-takes x s
+message-takes x k code s (Serves (service.Attach p)) = refl
+message-takes x k code s (Serves service.Detach) = refl
+message-takes x k code s (Serves (service.Bind mode sap granted)) = refl
+message-takes x k code s (Serves service.Unbind) = refl
+message-takes x k code s (Serves (service.Connect at)) = refl
+message-takes x k code s (Serves (service.Accept n)) = refl
+message-takes x k code s (Serves (service.Deny n reason)) = refl
+message-takes x k code s (Serves (service.Disconnect reason)) = refl
+message-takes x k code s (Serves service.Reset) = refl
+message-takes x k code s (Serves service.ResetRes) = refl

@@ -1,0 +1,172 @@
+// A message: its state row, what the order of errors reads of the table, and what that comes to.
+ghost use mathlib.Core.Path.{_≡_};
+ghost use Prim.Native.Nat.{_<_, _≤_};
+ghost use lib.ListN.{length};
+ghost use Rattle.paper.specs.Base.{stream};
+ghost use Rattle.paper.specs.Messages.{codeIn, askedBy};
+ghost use Rattle.paper.specs.StateRows.{stateRows};
+ghost use Rattle.paper.specs.Sight.{sends, requestAsks, carrierAt};
+ghost use Rattle.paper.specs.Step.{comes};
+ghost use Rattle.paper.specs.declared.Asked.the-variants as asked;
+ghost use Rattle.paper.specs.declared.Request.the-variants as request;
+ghost use Rattle.table_image.specs.Layout.{tableOf};
+ghost use Rattle.table_image.specs.Lent.{Lent};
+ghost use Rattle.call_outcomes.specs.Leaving.{left, leaving};
+ghost use Rattle.call_answering.specs.Judging.{RightlyJudged};
+use paper::Asked;
+use paper::Carrier;
+use paper::ConnectResponse;
+use paper::DisconnectRequest;
+use paper::Found;
+use paper::Request;
+use paper::Rule;
+use paper::Service;
+use paper::Stream;
+use paper::Token;
+use paper::Verdict;
+
+// ---- steps 3 to 7 of the order of errors, of stream i, which stands as s
+
+// What a request comes to, and the stream that would carry its call.
+struct Judged {
+    verdict: Verdict,
+    carrier: u8,
+}
+
+// A request that names no token: the stream itself would carry.
+fn alone(i: u8, verdict: Verdict) -> Judged
+    ensures { λ r. ⌜ r ≡ record { verdict = verdict; carrier = i } ⌝ }
+{
+    Judged {
+        verdict: verdict,
+        carrier: i,
+    }
+}
+
+// The stream that the token names.
+fn carrier_at(i: u8, carrier: Carrier) -> u8
+    ensures { λ r. ⌜ r ≡ carrierAt i carrier ⌝ }
+{
+    match carrier {
+        Carrier::Itself => i,
+        Carrier::Other(c, _) => c,
+        Carrier::None => i,
+    }
+}
+
+// 6. CONNECT_RES: its number among the open ones, how many these are, and the stream that its token names.
+fn judged_accept(img: &[u8], i: u8, s: Stream, a: ConnectResponse) -> Judged
+    requires { ⌜ (i < 16) × (length (now img) ≡ 760) × Lent (now img) × (s ≡ stream (tableOf (now img)) i) ⌝ }
+    ensures { λ r. ⌜ RightlyJudged (tableOf (now (img .entry))) i (request.ConnectRes a) r ⌝ }
+{
+    let at = i as usize;
+    let n = a.correlation;
+    let k = a.token;
+    let waits = table_numbers::is_waiting(img, at, n);
+    let count = table_image::count_at(img, at);
+    let carrier = table_lookup::carrier_of(img, i, k);
+    let verdict = paper_rules::judge_accept(s, a, waits, count, carrier);
+    let place = carrier_at(i, carrier);
+    Judged {
+        verdict: verdict,
+        carrier: place,
+    }
+}
+
+// 7. DISCONNECT_REQ: its number among the open ones.
+fn judged_disconnect(img: &[u8], i: u8, s: Stream, d: DisconnectRequest) -> Judged
+    requires { ⌜ (i < 16) × (length (now img) ≡ 760) × Lent (now img) × (s ≡ stream (tableOf (now img)) i) ⌝ }
+    ensures { λ r. ⌜ RightlyJudged (tableOf (now (img .entry))) i (request.Disconnect d) r ⌝ }
+{
+    let n = d.correlation;
+    let waits = table_numbers::is_waiting(img, i as usize, n);
+    alone(i, paper_rules::judge_disconnect(s, d, waits))
+}
+
+fn judged_request(img: &[u8], i: u8, s: Stream, q: Request) -> Judged
+    requires { ⌜ (i < 16) × (length (now img) ≡ 760) × Lent (now img) × (s ≡ stream (tableOf (now img)) i) ⌝ }
+    ensures { λ r. ⌜ RightlyJudged (tableOf (now (img .entry))) i q r ⌝ }
+{
+    match q {
+        Request::Info => alone(i, Verdict::Serves(Service::Inform)),
+        Request::Token => alone(i, Verdict::Serves(Service::TellToken)),
+        Request::Attach(p) => alone(i, paper_rules::judge_attach(p, table_lookup::knows(img, p))),
+        Request::Detach => alone(i, Verdict::Serves(Service::Detach)),
+        Request::Bind(b) => {
+            let p = s.ppa;
+            let sap = b.sap;
+            alone(
+                i,
+                paper_rules::judge_bind(b, table_lookup::is_listened_for(img, p, sap)),
+            )
+        }
+        Request::Unbind => alone(i, Verdict::Serves(Service::Unbind)),
+        Request::Connect(c) => alone(i, paper_rules::judge_connect(c)),
+        Request::ConnectRes(a) => judged_accept(img, i, s, a),
+        Request::Disconnect(d) => judged_disconnect(img, i, s, d),
+        Request::Reset => alone(i, Verdict::Serves(Service::Reset)),
+        Request::ResetRes => alone(i, Verdict::Serves(Service::ResetRes)),
+    }
+}
+
+// ---- a message of stream i
+
+// A request's cause in the state rows: its code.
+fn cause_of(q: Request) -> u8
+    ensures { λ r. ⌜ r ≡ requestAsks q .cause ⌝ }
+{
+    match q {
+        Request::Info => 0x00,
+        Request::Token => 0x11,
+        Request::Attach(_) => 0x0b,
+        Request::Detach => 0x0c,
+        Request::Bind(_) => 0x01,
+        Request::Unbind => 0x02,
+        Request::Connect(_) => 0x0d,
+        Request::ConnectRes(_) => 0x0f,
+        Request::Disconnect(_) => 0x13,
+        Request::Reset => 0x17,
+        Request::ResetRes => 0x19,
+    }
+}
+
+// Step 2 of the order of errors, then the others; a request that they let pass is served by its state row.
+fn answer_request(img: &mut [u8], room: &mut [u8], i: u8, m: &[u8], code: u32, q: Request) -> u32
+    requires { ⌜ (i < 16) × (length (now img) ≡ 760) × Lent (now img) × (128 ≤ length (now room)) ⌝ }
+    ensures { λ r. ⌜ left r (now (img .exit)) (now (room .exit)) ≡ leaving (now (img .entry)) (now (room .entry)) (comes stateRows (tableOf (now (img .entry))) i (now (m .entry)) (sends code (asked.For q))) ⌝ }
+{
+    let s = table_image::load_stream(img, i as usize);
+    let found = paper_rows::row_for(s, cause_of(q));
+    match found {
+        Found::Missing => call_enacting::enact(
+            img,
+            room,
+            i,
+            i,
+            m,
+            paper_effects::error_effect(code, Rule::NoRow),
+        ),
+        Found::At(x) => {
+            let judged = judged_request(img, i, s, q);
+            let verdict = judged.verdict;
+            let carrier = judged.carrier;
+            let e = paper_effects::effect_by(x, Token(i as u32 + 1), code, s, verdict);
+            call_enacting::enact(img, room, i, carrier, m, e)
+        }
+    }
+}
+
+// Step 1, then the others.
+pub fn answer(img: &mut [u8], room: &mut [u8], i: u8, m: &[u8]) -> u32
+    requires { ⌜ (i < 16) × (length (now img) ≡ 760) × Lent (now img) × (128 ≤ length (now room)) × (length (now m) ≤ 96) ⌝ }
+    ensures { λ r. ⌜ left r (now (img .exit)) (now (room .exit)) ≡ leaving (now (img .entry)) (now (room .entry)) (comes stateRows (tableOf (now (img .entry))) i (now (m .entry)) (sends (codeIn (now (m .entry))) (askedBy (now (m .entry))))) ⌝ }
+{
+    let code = wire_messages::code_in(m);
+    let asked = wire_messages::asked_by(m);
+    match asked {
+        Asked::Wrong(rule) => {
+            call_enacting::enact(img, room, i, i, m, paper_effects::error_effect(code, rule))
+        }
+        Asked::For(q) => answer_request(img, room, i, m, code, q),
+    }
+}

@@ -1,0 +1,146 @@
+-- A change keeps a table's shape, so that one can follow another: it adds an open number only where there is a place, and
+-- past the table's end it finds nothing. A message up is 99 bytes long, since at most two addresses stand behind its fields.
+use Prim.Native.Nat.{ℕ, _≤_, _<_}
+use native.Mathlib.Omega.{arith}
+use mathlib.Core.Path.{_≡_, refl, sym, ap, _∙_}
+use mathlib.Core.Bool.{true}
+use mathlib.Core.List.{List, [], _∷_, _++_}
+use lib.ListN.{length, length-append, replicate}
+use lib.Seq.{set-out}
+use lib.Dec.{ltb}
+use types.Run.{OneOf, miss}
+use denote.Enum.Declared.{tagOf}
+use Rattle.ledger.specs.Choice.{pick}
+use Rattle.ledger.specs.Tally.{without}
+use Rattle.ledger.proofs.Tallies.{length-without-le, picked}
+use Rattle.octets.specs.Runs.{part, over}
+use Rattle.paper.proofs.LineOrder as the-order
+use Rattle.paper.proofs.Reply as the-reply
+use Rattle.paper.specs.Base.{isAmong, toldStates, settled, Slot, Table, waiting, withSlot, withNumbers, withStream, withCounter}
+use Rattle.paper.specs.Correlations.{onePast}
+use Rattle.paper.specs.RecordsIn.{calledIn, callingIn}
+use Rattle.paper.specs.RecordsOut.{Record, up, bytesOf}
+use Rattle.paper.specs.Replies.{sapBytes, addressOf, infoTail}
+use Rattle.paper.specs.Effects.{standing, changed, behindOrder, behindReply}
+use Rattle.paper.specs.declared.State.{State}
+use Rattle.paper.specs.declared.Stream.{Stream}
+use Rattle.paper.specs.declared.Change.{Change}
+use Rattle.paper.specs.declared.Change.the-variants.{Stays, Becomes, Takes, Loses}
+use Rattle.paper.specs.declared.LineOrder.{LineOrder}
+use Rattle.paper.specs.declared.LineOrder.the-variants as lineOrder
+use Rattle.paper.specs.declared.Reply.{Reply}
+use Rattle.paper.specs.declared.Reply.the-variants as reply
+use Rattle.table_image.specs.Shape.{Shaped}
+use Rattle.table_image.proofs.Shapes.{shaped-calls, shaped-stream, shaped-counter}
+use Rattle.table_image.proofs.Joined.{part-add}
+use Rattle.call_outcomes.proofs.Laws.{part-most, same-long, same-over}
+use Rattle.call_enacting.specs.Takes.{takes}
+use Rattle.call_enacting.specs.Written.{Written}
+
+-- ---- the table
+
+-- a stream that loses an open indication, by how many are left
+pub stands-last : (last : State) (s : Stream) (w : List ℕ) → length w ≡ 0 → settled last s ≡ standing last s w
+stands-last last s [] h = refl
+stands-last last s (n ∷ w) h = absurd (omega arith)
+
+pub stands-on : (last : State) (s : Stream) (w : List ℕ) → (length w ≡ 0 → ⊥) → s ≡ standing last s w
+stands-on last s [] h = absurd (h refl)
+stands-on last s (n ∷ w) h = refl
+
+module _ (t : Table) (k : Shaped t) where
+  -- a change finds a shaped table and leaves one
+  pub shaped-changed : (i : ℕ) (c : Change) → (takes c ≡ true → length (waiting t i) < 8) → Shaped (changed t i c)
+  unfolding changed withCounter
+  shaped-changed i Stays h = k
+  shaped-changed i (Becomes s) h = shaped-stream t k i s
+  shaped-changed i (Takes s n) h =
+      shaped-calls (withCounter t (onePast (n .0))) (shaped-counter t k (onePast (n .0))) i s (waiting t i ++ (n .0 ∷ []))
+      (simp length-append (omega (arith, h refl)))
+  shaped-changed i (Loses s n last) h =
+      let w : List ℕ = without (n .0) (waiting t i) in
+      shaped-calls t k i (standing last s w) w (omega (arith, length-without-le (n .0) (waiting t i), k .eight i))
+
+  -- past the table's end there is no stream that carries
+  pub none-past : (c : ℕ) (s : Stream) → 16 ≤ c → withStream t c s ≡ t
+  unfolding withStream withNumbers withSlot
+  none-past c s h =
+      ap (λ (l : List Slot). record { remembers = t .remembers; counter = t .counter; ppas = t .ppas; slots = l })
+      (set-out (t .slots) c _ (omega (arith, k .sixteen)))
+
+-- ---- the records
+
+-- the orders with nothing behind them, by their tags
+abbrev pub bareOrders : List ℕ
+bareOrders = 1 ∷ 2 ∷ 3 ∷ 4 ∷ []
+
+pub no-address : (own : Slot) (m : List ℕ) (o : LineOrder) → OneOf bareOrders (tagOf the-order.the-type o) → [] ≡ behindOrder own m o
+no-address own m (lineOrder.Connect at) h = absurd (miss bareOrders 0 tt h)
+no-address own m (lineOrder.Accept n) h = refl
+no-address own m (lineOrder.Disconnect n reason) h = refl
+no-address own m lineOrder.Reset h = refl
+no-address own m lineOrder.ResetAnswer h = refl
+
+-- the messages up with nothing behind their fields, by their tags
+abbrev pub bareReplies : List ℕ
+bareReplies = 2 ∷ 3 ∷ 6 ∷ 7 ∷ 8 ∷ 9 ∷ []
+
+pub no-tail : (mac m : List ℕ) (r : Reply) → OneOf bareReplies (tagOf the-reply.the-type r) → [] ≡ behindReply mac m r
+unfolding behindReply
+no-tail mac m (reply.InfoAck s) h = absurd (miss bareReplies 0 tt h)
+no-tail mac m (reply.BindAck sap granted) h = absurd (miss bareReplies 1 tt h)
+no-tail mac m (reply.ErrorAck code error) h = refl
+no-tail mac m (reply.OkAck code) h = refl
+no-tail mac m (reply.ConnectInd n) h = absurd (miss bareReplies 4 tt h)
+no-tail mac m reply.ConnectCon h = absurd (miss bareReplies 5 tt h)
+no-tail mac m (reply.TokenAck k) h = refl
+no-tail mac m (reply.DisconnectInd reason n) h = refl
+no-tail mac m (reply.ResetInd reason) h = refl
+no-tail mac m reply.ResetCon h = refl
+
+-- CONNECT_IND has the two addresses of the event, one behind the other
+pub two-addresses : (m : List ℕ) → part m 5 14 ≡ calledIn m ++ callingIn m
+two-addresses m = part-add m 5 7 7
+
+sap-most : (sap : ℕ) → length (sapBytes sap) ≤ 2
+sap-most sap = picked (λ (l : List ℕ). length l ≤ 2) (ltb sap 256) _ _ (λ e. omega arith) (λ e. omega arith)
+
+-- behind a message up stand at most 14 bytes, where a MAC has six
+module _ (mac : List ℕ) (six : length mac ≡ 6) where
+  address-most : (sap : ℕ) → length (addressOf mac sap) ≤ 8
+  unfolding addressOf
+  address-most sap = omega (arith, six, length-append mac (sapBytes sap), sap-most sap)
+
+  info-most : (s : Stream) → length (infoTail mac s) ≤ 14
+  unfolding infoTail
+  info-most s =
+      let told : List ℕ = pick (isAmong toldStates s) (addressOf mac (s .sap)) [] in
+      let most : length told ≤ 8 = picked (λ (l : List ℕ). length l ≤ 8) (isAmong toldStates s) (addressOf mac (s .sap)) [] (λ z. address-most (s .sap)) (λ z. omega arith) in
+      omega (arith, length-append told (replicate 6 0xff), most)
+
+  pub tail-most : (m : List ℕ) (r : Reply) → length (behindReply mac m r) ≤ 14
+  unfolding behindReply
+  tail-most m (reply.InfoAck s) = info-most s
+  tail-most m (reply.BindAck sap granted) = omega (arith, address-most sap)
+  tail-most m (reply.ErrorAck code error) = omega arith
+  tail-most m (reply.OkAck code) = omega arith
+  tail-most m (reply.ConnectInd n) = omega (arith, length-append (calledIn m) (callingIn m), part-most m 5 7, part-most m 12 7)
+  tail-most m reply.ConnectCon = omega (arith, part-most m 2 7)
+  tail-most m (reply.TokenAck k) = omega arith
+  tail-most m (reply.DisconnectInd reason n) = omega arith
+  tail-most m (reply.ResetInd reason) = omega arith
+  tail-most m reply.ResetCon = omega arith
+
+-- ---- a record written is the one that was to be written, where the two are the same
+
+pub same-order : (r s : Record) → r ≡ s → (n : ℕ) (room room' : List ℕ) → n ≡ length (bytesOf r) → room' ≡ over (bytesOf r) room
+    → Written (s ∷ []) n room room'
+same-order r s e n room room' a b = (same-long r s e n a, same-over r s e room room' b)
+
+-- what stands behind its fields goes by the reply
+pub same-up : (i : ℕ) (r q : Reply) (x mac m room room' : List ℕ) → r ≡ q → room' ≡ over (bytesOf (up i q x)) room → x ≡ behindReply mac m q
+    → room' ≡ over (bytesOf (up i r (behindReply mac m r))) room
+same-up i r q x mac m room room' k h e =
+    h
+    ∙ ap (λ (l : List ℕ). over (bytesOf (up i q l)) room) e
+    ∙ ap (λ (p : Reply). over (bytesOf (up i p (behindReply mac m p))) room) (sym k)

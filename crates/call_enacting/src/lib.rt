@@ -1,0 +1,181 @@
+// An effect enacted: its records are written to the lent room, then the lent table is changed.
+ghost use mathlib.Core.Path.{_≡_};
+ghost use mathlib.Core.Bool.{true};
+ghost use mathlib.Core.List.{[], _∷_};
+ghost use Prim.Native.Nat.{_<_, _≤_};
+ghost use lib.ListN.{length};
+ghost use Rattle.octets.specs.Runs.{over};
+ghost use Rattle.paper.specs.Base.{Slot, slot, waiting, macAt};
+ghost use Rattle.paper.specs.RecordsOut.{order, up, bytesOf};
+ghost use Rattle.paper.specs.Refusals.{served};
+ghost use Rattle.paper.specs.Effects.{changed, carried, enacted, namedBy, behindOrder, ordersIn, behindReply, upsIn, told};
+ghost use Rattle.table_image.specs.Layout.{tableOf, imageOf};
+ghost use Rattle.table_image.specs.Lent.{Lent};
+ghost use Rattle.call_outcomes.specs.Leaving.{left, leaving};
+ghost use Rattle.call_enacting.specs.Takes.{takes};
+ghost use Rattle.call_enacting.specs.Written.{Written};
+use paper::Change;
+use paper::Correlation;
+use paper::Effect;
+use paper::LineOrder;
+use paper::Reply;
+use paper::Saying;
+use paper::State;
+use paper::Stream;
+use paper::Telling;
+
+// ---- the table
+
+// A stream takes one more open indication, and the counter stands one past its number.
+fn take_indication(img: &mut [u8], i: u8, s: Stream, n: Correlation)
+    requires { ⌜ (i < 16) × (length (now img) ≡ 760) × Lent (now img) × (length (waiting (tableOf (now img)) i) < 8) ⌝ }
+    ensures { λ _. ⌜ now (img .exit) ≡ imageOf (changed (tableOf (now (img .entry))) i (Change.Takes s n)) ⌝ }
+{
+    table_image::store_counter(img, std::num::wrapping_add_u32(n.0, 1));
+    table_numbers::add_number(img, i as usize, s, n);
+}
+
+// A stream loses an open indication, and goes to another state where it was the last.
+fn lose_indication(img: &mut [u8], i: u8, s: Stream, n: Correlation, last: State)
+    requires { ⌜ (i < 16) × (length (now img) ≡ 760) × Lent (now img) ⌝ }
+    ensures { λ _. ⌜ now (img .exit) ≡ imageOf (changed (tableOf (now (img .entry))) i (Change.Loses s n last)) ⌝ }
+{
+    let at = i as usize;
+    if table_numbers::remaining(img, at, n) == 0 {
+        table_numbers::remove_number(img, at, paper_rules::settled(last, s), n);
+        return;
+    }
+    table_numbers::remove_number(img, at, s, n);
+}
+
+// What becomes of a stream.
+fn change_stream(img: &mut [u8], i: u8, change: Change)
+    requires { ⌜ (i < 16) × (length (now img) ≡ 760) × Lent (now img) × (takes change ≡ true → length (waiting (tableOf (now img)) i) < 8) ⌝ }
+    ensures { λ _. ⌜ now (img .exit) ≡ imageOf (changed (tableOf (now (img .entry))) i change) ⌝ }
+{
+    match change {
+        Change::Stays => {}
+        Change::Becomes(s) => table_image::store_stream(img, i as usize, s),
+        Change::Takes(s, n) => take_indication(img, i, s, n),
+        Change::Loses(s, n, last) => lose_indication(img, i, s, n, last),
+    }
+}
+
+// The carrying stream goes to 11. Past the table's end there is none.
+fn carry(img: &mut [u8], c: u8, carries: bool)
+    requires { ⌜ (length (now img) ≡ 760) × Lent (now img) ⌝ }
+    ensures { λ _. ⌜ now (img .exit) ≡ imageOf (carried (tableOf (now (img .entry))) c carries) ⌝ }
+{
+    if carries && c < 16 {
+        let at = c as usize;
+        let s = table_image::load_stream(img, at);
+        table_image::store_stream(img, at, paper_rules::settled(State::DataXfer, s));
+    }
+}
+
+// ---- the records
+
+// The stream that an order names.
+fn named_by(i: u8, c: u8, o: LineOrder) -> u8
+    ensures { λ r. ⌜ r ≡ namedBy i c o ⌝ }
+{
+    match o {
+        LineOrder::Connect(_) => i,
+        LineOrder::Accept(_) => c,
+        LineOrder::Disconnect(_, _) => i,
+        LineOrder::Reset => i,
+        LineOrder::ResetAnswer => i,
+    }
+}
+
+// An order to the line. The address of a connect is handed on as that part of the message. (No order reads the stream's
+// own slot.)
+fn put_named_order(room: &mut [u8], i: u8, c: u8, m: &[u8], o: LineOrder) -> usize
+    requires { ⌜ 10 ≤ length (now room) ⌝ }
+    ensures { λ n. ⌜ (n ≤ 10) × ((own : Slot) → Written (order (namedBy i c o) o (behindOrder own (now (m .entry)) o) ∷ []) n (now (room .entry)) (now (room .exit))) ⌝ }
+{
+    let s = named_by(i, c, o);
+    match o {
+        LineOrder::Connect(at) => wire_replies::put_connect(room, s, at, wire_messages::address_in(m, at)),
+        _ => wire_replies::put_order(room, s, o),
+    }
+}
+
+// What the line is told.
+fn put_orders(room: &mut [u8], i: u8, c: u8, m: &[u8], telling: Telling) -> usize
+    requires { ⌜ 10 ≤ length (now room) ⌝ }
+    ensures { λ n. ⌜ (n ≤ 10) × ((own : Slot) → Written (ordersIn i c own (now (m .entry)) telling) n (now (room .entry)) (now (room .exit))) ⌝ }
+{
+    match telling {
+        Telling::Untold => 0,
+        Telling::Tells(o) => put_named_order(room, i, c, m, o),
+    }
+}
+
+// The MAC of the PPA that a stream is attached to.
+fn mac_at(img: &[u8], i: u8) -> [u8; 6]
+    requires { ⌜ (i < 16) × (length (now img) ≡ 760) × Lent (now img) ⌝ }
+    ensures { λ r. ⌜ r ≡ macAt (tableOf (now (img .entry))) i ⌝ }
+{
+    let p = table_image::ppa_at(img, i as usize);
+    table_lookup::mac_of(img, p)
+}
+
+// A message up. INFO_ACK and BIND_ACK end in the stream's address, CONNECT_IND and CONNECT_CON in what the event's record
+// brings.
+fn put_reply(img: &[u8], room: &mut [u8], i: u8, m: &[u8], reply: Reply) -> usize
+    requires { ⌜ (i < 16) × (length (now img) ≡ 760) × Lent (now img) × (99 ≤ length (now room)) ⌝ }
+    ensures { λ n. ⌜ (n ≡ 99) × (now (room .exit) ≡ over (bytesOf (up i reply (behindReply (macAt (tableOf (now (img .entry))) i) (now (m .entry)) reply))) (now (room .entry))) ⌝ }
+{
+    match reply {
+        Reply::InfoAck(s) => {
+            let mac = mac_at(img, i);
+            wire_replies::put_info_ack(room, i, s, mac)
+        }
+        Reply::BindAck(sap, granted) => {
+            let mac = mac_at(img, i);
+            wire_replies::put_bind_ack(room, i, mac, sap, granted)
+        }
+        Reply::ConnectInd(_) => wire_replies::put_up(room, i, reply, octets::part_at(m, 5, 14)),
+        Reply::ConnectCon => wire_replies::put_up(room, i, reply, octets::part_at(m, 2, 7)),
+        _ => wire_replies::put_up(room, i, reply, &[0u8; 0]),
+    }
+}
+
+// What the stream's user is told.
+fn put_replies(img: &[u8], room: &mut [u8], i: u8, m: &[u8], saying: Saying) -> usize
+    requires { ⌜ (i < 16) × (length (now img) ≡ 760) × Lent (now img) × (99 ≤ length (now room)) ⌝ }
+    ensures { λ n. ⌜ (n ≤ 99) × Written (upsIn i (macAt (tableOf (now (img .entry))) i) (now (m .entry)) saying) n (now (room .entry)) (now (room .exit)) ⌝ }
+{
+    match saying {
+        Saying::Unsaid => 0,
+        Saying::Says(reply) => put_reply(img, room, i, m, reply),
+    }
+}
+
+// The order first, then F, then the message up, each right behind the one before.
+fn put_records(img: &[u8], room: &mut [u8], i: u8, c: u8, m: &[u8], e: Effect) -> usize
+    requires { ⌜ (i < 16) × (length (now img) ≡ 760) × Lent (now img) × (128 ≤ length (now room)) ⌝ }
+    ensures { λ n. ⌜ (n ≤ 111) × Written (told i c (slot (tableOf (now (img .entry))) i) (macAt (tableOf (now (img .entry))) i) (now (m .entry)) e) n (now (room .entry)) (now (room .exit)) ⌝ }
+{
+    let telling = e.order;
+    let saying = e.up;
+    let a = put_orders(room, i, c, m, telling);
+    let b = a + wire_replies::put_flush_if(&mut room[a..], e.flush, i);
+    b + put_replies(img, &mut room[b..], i, m, saying)
+}
+
+// ---- the call
+
+// An effect on stream i, where stream c carries, of the message m, or of the event whose record m is.
+pub fn enact(img: &mut [u8], room: &mut [u8], i: u8, c: u8, m: &[u8], e: Effect) -> u32
+    requires { ⌜ (i < 16) × (length (now img) ≡ 760) × Lent (now img) × (128 ≤ length (now room)) × (takes (e .change) ≡ true → length (waiting (tableOf (now img)) i) < 8) ⌝ }
+    ensures { λ r. ⌜ left r (now (img .exit)) (now (room .exit)) ≡ leaving (now (img .entry)) (now (room .entry)) (served (enacted (tableOf (now (img .entry))) i c (now (m .entry)) e) (told i c (slot (tableOf (now (img .entry))) i) (macAt (tableOf (now (img .entry))) i) (now (m .entry)) e)) ⌝ }
+{
+    let change = e.change;
+    let carries = e.carries;
+    let n = put_records(img, room, i, c, m, e);
+    change_stream(img, i, change);
+    carry(img, c, carries);
+    n as u32
+}

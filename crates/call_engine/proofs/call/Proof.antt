@@ -1,0 +1,33 @@
+use Prim.Native.Nat.{ℕ}
+use mathlib.Core.Path.{sym, ap, _∙_}
+use denote.Ref.{now}
+use borrow.Author.Tests.{not-true, not-false}
+use Rattle.call_outcomes.specs.Leaving.{left}
+use Rattle.call_engine.proofs.Laws.{call-off}
+use borrow.Author.Needs.{needs}
+use Rattle.call_engine.proofs.call.Statement.{statement}
+use Rattle.call_engine.proofs.call.Tie as tie
+
+returns : tie.Need-returns
+returns c =
+    let a = c .before .before .before .before .before .before .before in
+    let img = now (a .args .img) in
+    let room = now (a .args .room) in
+    ap (λ (n : ℕ). left n img room) (c .refused .ensures)
+    ∙ call-off img (now (a .args .r)) room (sym (c .before .before .sound-image .ensures) ∙ not-true _ (c .before .if1 .taken))
+
+call-sound-requires : tie.Need-call-sound-requires
+call-sound-requires c κs = sym (c .before .before .before .sound-image .ensures) ∙ not-false _ (c .before .before .if1 .left)
+
+pub call-spec : {M : Type 1} → statement M
+call-spec =
+    tie.close
+    (tie.spec
+    (λ c κs. search needs)
+    (λ c κs. search needs)
+    (λ c. search needs)
+    returns
+    call-sound-requires
+    (λ c. search needs)
+    (λ c. search needs)
+    (λ c. search needs))

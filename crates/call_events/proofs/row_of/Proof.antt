@@ -1,0 +1,18 @@
+use mathlib.Core.Path.{sym, _∙_}
+use borrow.Author.Tests.{not-true, not-false}
+use Rattle.ledger.specs.Choice.{_⇒_∣_}
+use borrow.Author.Needs.{needs}
+use Rattle.call_events.proofs.row_of.Statement.{statement}
+use Rattle.call_events.proofs.row_of.Tie as tie
+
+returns : tie.Need-returns
+unfolding _⇒_∣_
+returns c = rw (sym (c .before .is-due .ensures) ∙ not-true _ (c .if1 .taken))
+
+returns-2 : tie.Need-returns-2
+unfolding _⇒_∣_
+returns-2 c = rw (sym (c .before .before .before .is-due .ensures) ∙ not-false _ (c .before .before .if1 .left), sym (c .before .before .before .before .before .pre .3), sym (c .before .letter-of .ensures)) (c .row-for .ensures)
+
+pub row-of-spec : {M : Type 1} → statement M
+row-of-spec =
+    tie.close (tie.spec (λ c κs. search needs) returns (λ c κs. search needs) (λ c κs. search needs) returns-2)

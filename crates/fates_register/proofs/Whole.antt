@@ -1,0 +1,68 @@
+-- The whole table: a sum over the streams, and what a line changes outside of the page of its own stream.
+use Prim.Native.Nat.{ℕ, zero, suc, _+_, _*_, _≤_, _<_}
+use mathlib.Core.Path.{_≡_, refl, ap, _∙_}
+use mathlib.Core.Logic.{_≢_}
+use mathlib.Core.List.{List}
+use lib.ListN.{length, getD}
+use lib.Dec.{eqb}
+use native.Mathlib.Omega.{arith}
+use Rattle.ledger.specs.Tally.{oneIf}
+use Rattle.fates_book.specs.Book.{overStreams}
+use Rattle.fates_register.specs.Register.{counting, cleared, begun}
+use Rattle.fates_register.proofs.Cells.{by-same, by-order, counting-length, counting-other, counting-table}
+use Rattle.fates_register.proofs.Pages.{Outside, outside-cleared}
+
+-- ---- a sum over the streams
+
+pub over-none : (n : ℕ) → overStreams n (λ s. 0) ≡ 0
+unfolding overStreams
+over-none zero = refl
+over-none (suc n) = omega (arith, over-none n)
+
+pub over-same : (n : ℕ) (f g : ℕ → ℕ) → ((s : ℕ) → s < n → g s ≡ f s) → overStreams n g ≡ overStreams n f
+unfolding overStreams
+over-same zero f g e = refl
+over-same (suc n) f g e = omega (arith, over-same n f g (λ s h. e s (omega arith)), e n (omega arith))
+
+-- where the quantity goes up on one stream, the sum does as much
+pub over-one : (n i d : ℕ) (f g : ℕ → ℕ) → i < n → g i ≡ f i + d → ((s : ℕ) → s ≢ i → g s ≡ f s) → overStreams n g ≡ overStreams n f + d
+unfolding overStreams
+over-one zero i d f g h e o = absurd (omega arith)
+over-one (suc n) i d f g h e o =
+    by-same n i
+    (λ q. omega (arith, over-same n f g (λ s k. o s (omega arith)), ap f q, ap g q))
+    (λ q. omega (arith, over-one n i d f g (omega arith) e o, o n q))
+
+-- ---- what a line changes elsewhere
+
+-- on the page of the whole table count c goes up by one, and the pages of other streams than i stay
+pub record Change (l l′ : List ℕ) (i c : ℕ) : Type 0 where
+  pub size : length l′ ≡ length l
+  pub table : (a : ℕ) → a < 6 → getD l (384 + a) 0 < 18446744073709551615 → getD l′ (384 + a) 0 ≡ getD l (384 + a) 0 + oneIf (eqb a c)
+  pub others : (s a : ℕ) → s < 16 → s ≢ i → a < 24 → getD l′ (s * 24 + a) 0 ≡ getD l (s * 24 + a) 0
+
+-- what stays inside of the page of stream i does not touch another page
+outside-page : (l l′ : List ℕ) (i x y s a : ℕ) → Outside l l′ x y → i * 24 ≤ x → y ≤ i * 24 + 24 → s ≢ i → a < 24 → getD l′ (s * 24 + a) 0 ≡ getD l (s * 24 + a) 0
+outside-page l l′ i x y s a o p q e h =
+    by-order s i
+    (λ d. o .below (s * 24 + a) (omega arith))
+    (λ d. o .behind (s * 24 + a) (omega arith))
+
+module _ (l : List ℕ) (i c : ℕ) (h : i < 16) (d : c < 6) (z : length l ≡ 408) where
+  -- a count, and then the page
+  pub change-counted : (l′ : List ℕ) → Outside (counting i c l) l′ (i * 24 + 6) (i * 24 + 22) → Change l l′ i c
+  change-counted l′ o = record {
+    size = o .size ∙ counting-length l i c;
+    table = λ a n m. o .behind (384 + a) (omega arith) ∙ counting-table l i c h d z a n m;
+    others = λ s a n e m. outside-page (counting i c l) l′ i (i * 24 + 6) (i * 24 + 22) s a o (omega arith) (omega arith) e m ∙ counting-other l i c (s * 24 + a) (omega arith) (omega arith);
+  }
+
+-- a page that starts anew, and then its count
+pub change-begun : (l : List ℕ) (i : ℕ) → i < 16 → length l ≡ 408 → Change l (begun i l) i 0
+change-begun l i h z =
+    let o : Outside l (cleared 21 (i * 24 + 1) l) (i * 24 + 1) (i * 24 + 22) = outside-cleared l 21 (i * 24 + 1) (i * 24 + 1) (i * 24 + 22) (omega arith) (omega arith) in
+    record {
+      size = counting-length (cleared 21 (i * 24 + 1) l) i 0 ∙ o .size;
+      table = λ a n m. counting-table (cleared 21 (i * 24 + 1) l) i 0 h (omega arith) (o .size ∙ z) a n (omega (arith, o .behind (384 + a) (omega arith))) ∙ ap (λ (k : ℕ). k + oneIf (eqb a 0)) (o .behind (384 + a) (omega arith));
+      others = λ s a n e m. counting-other (cleared 21 (i * 24 + 1) l) i 0 (s * 24 + a) (omega arith) (omega arith) ∙ outside-page l (cleared 21 (i * 24 + 1) l) i (i * 24 + 1) (i * 24 + 22) s a o (omega arith) (omega arith) e m;
+    }

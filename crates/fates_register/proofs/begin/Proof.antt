@@ -1,0 +1,10 @@
+use borrow.Author.Needs.{needs}
+use Rattle.fates_register.proofs.begin.Statement.{statement}
+use Rattle.fates_register.proofs.begin.Tie as tie
+
+returns : tie.Need-returns
+returns c = rw (c .before .before .count .ensures, c .before .before .before .before .before .before .clear .ensures)
+
+pub begin-spec : {M : Type 1} → statement M
+begin-spec =
+    tie.close (tie.spec (λ c. search needs) (λ c. search needs) (λ c κs. search needs) (λ c κs. search needs) (λ c. search needs) returns)

@@ -1,0 +1,272 @@
+-- Laws of the text of fates: one piece behind the other, and how long each is.
+use Prim.Native.Nat.{ℕ, zero, suc, _+_, _-_, _*_, _≤_, _<_}
+use native.Mathlib.Omega.{arith}
+use mathlib.Core.Path.{_≡_, refl, sym, ap, ap₂, _∙_}
+use mathlib.Core.List.{List, [], _∷_, _++_, append-assoc, append-nil}
+use lib.ListN.{length, getD, drop, length-append, drop-of-length-le}
+use lib.Seq.{drop-cons, drop-drop}
+use borrow.Author.Tests.{eq-eqb, ne-eqb}
+use Rattle.ledger.specs.Choice.{_⇒_∣_}
+use Rattle.ledger.proofs.Tallies.{chosen}
+use Rattle.octets.specs.Numbers.{be32At}
+use Rattle.octets.specs.Runs.{paste}
+use Rattle.octets.proofs.Laws.{paste-join}
+use Rattle.text.proofs.Laws.{decimal-most, after, paste-nothing}
+use Rattle.paper.specs.declared.Input.{Input}
+use Rattle.paper.specs.RecordsOut.{sizeOut}
+use Rattle.paper.proofs.Sizes.{size-within}
+use Rattle.fates_book.specs.declared.End.{End}
+use Rattle.fates_book.specs.declared.End.the-variants.{Accepted, Denied, Withdrawn, Dropped}
+use Rattle.fates_book.specs.declared.Line.{Line}
+use Rattle.fates_book.specs.declared.Line.the-variants.{Began, Went}
+use Rattle.fates_book.specs.Lines.{asker, endLine, upLine, lineAt, recordsIn, linesIn, openingLines}
+use Rattle.fates_register.specs.Register.{openOn, entered, enteredAll}
+use Rattle.fates_report.specs.Report.{wordCall, wordOf, wordStillOpen, spacedNumber, numbers, indicationLine, openLines, endText, lineText, allText, endTexts, openOnAll}
+
+-- ---- what is still to come, behind e, leads to the same text
+
+pub record Coming (out₀ : List ℕ) (at : ℕ) (whole out : List ℕ) (e : ℕ) (rest : List ℕ) : Type 0 where
+  pub end : at + length whole ≡ e + length rest
+  pub text : paste out₀ at whole ≡ paste out e rest
+
+-- nothing is written yet
+pub all-coming : (out : List ℕ) (at : ℕ) (whole : List ℕ) → Coming out at whole out at whole
+all-coming out at whole = record { end = refl; text = refl }
+
+-- a piece was written
+pub less-coming : {out₀ : List ℕ} {at : ℕ} {whole out out' all : List ℕ} {e e' : ℕ} (p rest : List ℕ) → e ≤ length out
+    → Coming out₀ at whole out e all → all ≡ p ++ rest
+    → (e' ≡ e + length p) × (out' ≡ paste out e p)
+    → Coming out₀ at whole out' e' rest
+less-coming {out₀} {at} {whole} {out} {out'} {all} {e} {e'} p rest h c q w = record {
+  end = omega (arith, c .end, ap length q, length-append p rest, w .0);
+  text = c .text ∙ ap (paste out e) q ∙ paste-join out e p rest h ∙ ap₂ (λ (x : List ℕ) (y : ℕ). paste x y rest) (sym (w .1)) (sym (w .0));
+}
+
+-- all is written
+pub none-coming : {out₀ : List ℕ} {at : ℕ} {whole out rest : List ℕ} {e : ℕ} → Coming out₀ at whole out e rest → rest ≡ []
+    → (e ≡ at + length whole) × (out ≡ paste out₀ at whole)
+none-coming {out₀} {at} {whole} {out} {rest} {e} c q =
+    (omega (arith, c .end, ap length q), sym (c .text ∙ ap (paste out e) q ∙ paste-nothing out e))
+
+-- an empty text
+pub unwritten : (out : List ℕ) (at : ℕ) → (at ≡ at + length {A = ℕ} []) × (out ≡ paste out at [])
+unwritten out at = none-coming (all-coming out at []) refl
+
+-- ---- numbers
+
+pub numbers-end : (k c : ℕ) (l : List ℕ) → k ≤ 0 → numbers k c l ≡ []
+unfolding numbers
+numbers-end zero c l h = refl
+numbers-end (suc k) c l h = absurd (omega arith)
+
+pub numbers-next : (k c : ℕ) (l : List ℕ) → 0 < k → numbers k c l ≡ spacedNumber (getD l c 0) ++ numbers (k - 1) (c + 1) l
+unfolding numbers
+numbers-next zero c l h = absurd (omega arith)
+numbers-next (suc k) c l h =
+    let e : suc k - 1 ≡ k = omega arith in
+    rw e
+
+numbers-most : (k c : ℕ) (l : List ℕ) → length (numbers k c l) ≤ 21 * k
+unfolding numbers
+numbers-most zero c l = omega arith
+numbers-most (suc k) c l =
+    omega (arith, decimal-most (getD l c 0), length-append (spacedNumber (getD l c 0)) (numbers k (c + 1) l), numbers-most k (c + 1) l)
+
+-- ---- those still open
+
+pub open-end : (k i c : ℕ) (l : List ℕ) → k ≤ 0 → openLines k i c l ≡ []
+unfolding openLines
+open-end zero i c l h = refl
+open-end (suc k) i c l h = absurd (omega arith)
+
+pub open-none : (k i c : ℕ) (l : List ℕ) → getD l c 0 ≡ 0 → openLines k i c l ≡ []
+unfolding openLines _⇒_∣_
+open-none zero i c l h = refl
+open-none (suc k) i c l h = rw (eq-eqb (getD l c 0) 0 h)
+
+pub open-next : (k i c : ℕ) (l : List ℕ) → 0 < k → (getD l c 0 ≡ 0 → ⊥)
+    → openLines k i c l ≡ indicationLine i c wordStillOpen l ++ openLines (k - 1) i (c + 2) l
+unfolding openLines _⇒_∣_
+open-next zero i c l h n = absurd (omega arith)
+open-next (suc k) i c l h n =
+    let e : suc k - 1 ≡ k = omega arith in
+    rw (e, ne-eqb (getD l c 0) 0 n)
+
+-- ---- stream after stream, up to n
+
+pub ends-end : (n i : ℕ) (l : List ℕ) → n ≤ i → endTexts (n - i) i l ≡ []
+unfolding endTexts
+ends-end n i l h =
+    let e : n - i ≡ zero = omega arith in
+    ap (λ (k : ℕ). endTexts k i l) e
+
+pub ends-next : (n i : ℕ) (l : List ℕ) → i < n → endTexts (n - i) i l ≡ endText i l ++ endTexts (n - (i + 1)) (i + 1) l
+unfolding endTexts
+ends-next n i l h =
+    let e : n - i ≡ suc (n - (i + 1)) = omega arith in
+    ap (λ (k : ℕ). endTexts k i l) e
+
+pub sum-end : (n i : ℕ) (l : List ℕ) → n ≤ i → openOnAll (n - i) i l ≡ 0
+unfolding openOnAll
+sum-end n i l h =
+    let e : n - i ≡ zero = omega arith in
+    ap (λ (k : ℕ). openOnAll k i l) e
+
+pub sum-next : (n i : ℕ) (l : List ℕ) → i < n → openOnAll (n - i) i l ≡ openOn i l + openOnAll (n - (i + 1)) (i + 1) l
+unfolding openOnAll
+sum-next n i l h =
+    let e : n - i ≡ suc (n - (i + 1)) = omega arith in
+    ap (λ (k : ℕ). openOnAll k i l) e
+
+-- ---- how long the line of a record is
+
+word-most : (e : End) → length (wordOf e) ≤ 10
+word-most Accepted = omega arith
+word-most Denied = omega arith
+word-most Withdrawn = omega arith
+word-most Dropped = omega arith
+
+pub call-most : (i c : ℕ) (word l : List ℕ) → length word ≤ 10 → length (indicationLine i c word l) ≤ 100
+call-most i c word l h =
+    let a = wordCall ++ spacedNumber i in
+    let b = a ++ numbers 1 (i * 24) l in
+    let d = b ++ numbers 2 c l in
+    omega (
+      arith,
+      decimal-most i,
+      numbers-most 1 (i * 24) l,
+      numbers-most 2 c l,
+      length-append a (numbers 1 (i * 24) l),
+      length-append b (numbers 2 c l),
+      length-append d word,
+      length-append (d ++ word) (10 ∷ []),
+    )
+
+-- short enough: all lines but that of an opening are
+abbrev Short : List ℕ → Line → Type 0
+Short l y = length (lineText y l) ≤ 100
+
+went-most : (i n : ℕ) (e : End) (l : List ℕ) → Short l (Went i n e)
+unfolding lineText
+went-most i n e l =
+    chosen (λ (t : List ℕ). length t ≤ 100) _ _ _ (λ q. call-most i _ (wordOf e) l (word-most e)) (λ q. omega arith)
+
+end-most : (i n : ℕ) (e : End) (l : List ℕ) → Short l (endLine i n e)
+unfolding endLine lineText
+end-most i n e l = chosen (Short l) _ _ _ (λ q. omega arith) (λ q. went-most i n e l)
+
+up-most : (b l : List ℕ) → Short l (upLine b)
+unfolding upLine lineText
+up-most b l =
+    chosen (Short l) _ _ _ (λ q. omega arith)
+    (λ q. chosen (Short l) _ _ _ (λ q. omega arith) (λ q. chosen (Short l) _ _ _ (λ q. end-most _ _ Withdrawn l) (λ q. omega arith)))
+
+pub record-most : (q : Input) (b l : List ℕ) → length (lineText (lineAt q b) l) ≤ 100
+unfolding lineAt lineText
+record-most q b l =
+    chosen (Short l) _ _ _ (λ e. went-most (asker q) (be32At b 2) Accepted l)
+    (λ e. chosen (Short l) _ _ _ (λ e. end-most _ _ _ l) (λ e. chosen (Short l) _ _ _ (λ e. up-most b l) (λ e. omega arith)))
+
+-- ---- the records of a call
+
+-- where no bytes are left there are no lines
+lines-end : (k : ℕ) (q : Input) (b : List ℕ) (i : ℕ) → length b ≤ i → linesIn k q (drop i b) ≡ []
+unfolding recordsIn
+lines-end k q b i h = ap (linesIn k q) (drop-of-length-le b h) ∙ none k where
+  none : (j : ℕ) → linesIn j q [] ≡ []
+  none zero = refl
+  none (suc j) = refl
+
+-- else that of the first record, and those of the rest
+lines-next : (k : ℕ) (q : Input) (b : List ℕ) (i : ℕ) → i < length b
+    → linesIn (suc k) q (drop i b) ≡ lineAt q (drop i b) ∷ linesIn k q (drop (i + sizeOut (getD b i 0)) b)
+unfolding recordsIn
+lines-next k q b i h =
+    let e : drop i b ≡ getD b i 0 ∷ drop (suc i) b = drop-cons b i 0 h in
+    ap (linesIn (suc k) q) e
+    ∙ ap (λ (l : List ℕ). lineAt q l ∷ linesIn k q (drop (sizeOut (getD b i 0)) l)) (sym e)
+    ∙ ap (λ (l : List ℕ). lineAt q (drop i b) ∷ linesIn k q l) (drop-drop (sizeOut (getD b i 0)) i b)
+
+-- k lines at most are still to be told, of the bytes from i on
+pub record Telling (out₀ : List ℕ) (at : ℕ) (ys : List Line) (l₀ : List ℕ) (q : Input) (b out : List ℕ) (e i : ℕ) (l : List ℕ) : Type 0 where
+  pub k : ℕ
+  pub enough : length b ≤ i + k
+  pub text : Coming out₀ at (allText ys l₀) out e (allText (linesIn k q (drop i b)) l)
+  pub register : enteredAll ys l₀ ≡ enteredAll (linesIn k q (drop i b)) l
+
+pub all-telling : (out : List ℕ) (at : ℕ) (q : Input) (b l : List ℕ) → Telling out at (linesIn (length b) q b) l q b out at 0 l
+all-telling out at q b l = record {
+  k = length b;
+  enough = omega arith;
+  text = all-coming out at (allText (linesIn (length b) q b) l);
+  register = refl;
+}
+
+-- a line was told
+pub less-telling : {out₀ : List ℕ} {at : ℕ} {ys : List Line} {l₀ : List ℕ} {q : Input} {b out : List ℕ} {e i : ℕ} {l out' : List ℕ} {e' : ℕ} {l' : List ℕ} (y : Line) (size : ℕ)
+    → Telling out₀ at ys l₀ q b out e i l → i < length b → e ≤ length out
+    → y ≡ lineAt q (drop i b) → size ≡ sizeOut (getD b i 0)
+    → (e' ≡ e + length (lineText y l)) × (out' ≡ paste out e (lineText y l)) → l' ≡ entered y l
+    → Telling out₀ at ys l₀ q b out' e' (i + size) l'
+unfolding allText enteredAll
+less-telling {out₀} {at} {ys} {l₀} {q} {b} {out} {e} {i} {l} {out'} {e'} {l'} y size t h f p s w n = go (t .k) (t .enough) (t .text) (t .register)
+  where
+    go : (k : ℕ) → length b ≤ i + k → Coming out₀ at (allText ys l₀) out e (allText (linesIn k q (drop i b)) l)
+        → enteredAll ys l₀ ≡ enteredAll (linesIn k q (drop i b)) l → Telling out₀ at ys l₀ q b out' e' (i + size) l'
+    go zero a c r = absurd (omega (arith, h, a))
+    go (suc k) a c r =
+        let rest : List Line = linesIn k q (drop (i + size) b) in
+        let all : linesIn (suc k) q (drop i b) ≡ y ∷ rest = rw (p, s) (lines-next k q b i h) in
+        record {
+          k = k;
+          enough = omega (arith, a, s, size-within (getD b i 0));
+          text = less-coming (lineText y l) (allText rest l') f c (ap (λ (x : List Line). allText x l) all ∙ ap (λ (x : List ℕ). lineText y l ++ allText rest x) (sym n)) w;
+          register = r ∙ ap (λ (x : List Line). enteredAll x l) all ∙ ap (enteredAll rest) (sym n);
+        }
+
+-- all are told
+pub none-telling : {out₀ : List ℕ} {at : ℕ} {ys : List Line} {l₀ : List ℕ} {q : Input} {b out : List ℕ} {e i : ℕ} {l : List ℕ}
+    → Telling out₀ at ys l₀ q b out e i l → length b ≤ i
+    → ((e ≡ at + length (allText ys l₀)) × (out ≡ paste out₀ at (allText ys l₀))) × (l ≡ enteredAll ys l₀)
+unfolding allText enteredAll
+none-telling {out₀} {at} {ys} {l₀} {q} {b} {out} {e} {i} {l} t h =
+    let none = lines-end (t .k) q b i h in
+    (none-coming (t .text) (ap (λ (x : List Line). allText x l) none), sym (t .register ∙ ap (λ (x : List Line). enteredAll x l) none))
+
+-- ---- a call
+
+text-append : (xs ys : List Line) (l : List ℕ) → allText (xs ++ ys) l ≡ allText xs l ++ allText ys (enteredAll xs l)
+unfolding allText enteredAll
+text-append [] ys l = refl
+text-append (x ∷ xs) ys l =
+    ap (λ (t : List ℕ). lineText x l ++ t) (text-append xs ys (entered x l))
+    ∙ sym (append-assoc (lineText x l) (allText xs (entered x l)) (allText ys (enteredAll xs (entered x l))))
+
+entered-append : (xs ys : List Line) (l : List ℕ) → enteredAll (xs ++ ys) l ≡ enteredAll ys (enteredAll xs l)
+unfolding enteredAll
+entered-append [] ys l = refl
+entered-append (x ∷ xs) ys l = entered-append xs ys (entered x l)
+
+-- some lines were told, and others behind them
+pub call-told : {out₁ out₂ l₁ l₂ : List ℕ} {e₁ e₂ : ℕ} (out₀ : List ℕ) (at : ℕ) (l₀ : List ℕ) (xs ys : List Line) → at ≤ length out₀
+    → (e₁ ≡ at + length (allText xs l₀)) × (out₁ ≡ paste out₀ at (allText xs l₀)) → l₁ ≡ enteredAll xs l₀
+    → (e₂ ≡ e₁ + length (allText ys l₁)) × (out₂ ≡ paste out₁ e₁ (allText ys l₁)) → l₂ ≡ enteredAll ys l₁
+    → ((e₂ ≡ at + length (allText (xs ++ ys) l₀)) × (out₂ ≡ paste out₀ at (allText (xs ++ ys) l₀))) × (l₂ ≡ enteredAll (xs ++ ys) l₀)
+call-told {out₁} {out₂} {l₁} {l₂} {e₁} {e₂} out₀ at l₀ xs ys h a n b m =
+    rw (text-append xs ys l₀, entered-append xs ys l₀, ← n) (after out₀ at (allText xs l₀) (allText ys l₁) h a b, m)
+
+-- where a stream was opened, its line alone
+pub opened-text : (t : ℕ) (l : List ℕ) → (t ≡ 0 → ⊥) → allText (openingLines t) l ≡ lineText (Began (t - 1)) l
+unfolding allText
+opened-text zero l h = absurd (h refl)
+opened-text (suc i) l h =
+    let e : suc i - 1 ≡ i = omega arith in
+    append-nil (lineText (Began i) l) ∙ ap (λ (k : ℕ). lineText (Began k) l) (sym e)
+
+pub opened-register : (t : ℕ) (l : List ℕ) → (t ≡ 0 → ⊥) → enteredAll (openingLines t) l ≡ entered (Began (t - 1)) l
+unfolding enteredAll
+opened-register zero l h = absurd (h refl)
+opened-register (suc i) l h =
+    let e : suc i - 1 ≡ i = omega arith in
+    ap (λ (k : ℕ). entered (Began k) l) (sym e)

@@ -1,0 +1,129 @@
+use Rattle.paper.specs.Effects.{effectOf}
+use borrow.Author.Needs.{needs}
+use Rattle.paper_effects.proofs.effect_of.Statement.{statement}
+use Rattle.paper_effects.proofs.effect_of.Tie as tie
+
+returns : tie.Need-returns
+unfolding effectOf
+returns c = rw (c .before .before .enum-told .given .1, c .acting .ensures, c .before .unchanged .ensures)
+
+returns-2 : tie.Need-returns-2
+unfolding effectOf
+returns-2 c = rw (c .before .before .enum-told2 .given .1, c .acting2 .ensures, c .before .unchanged2 .ensures)
+
+returns-3 : tie.Need-returns-3
+unfolding effectOf
+returns-3 c =
+    rw (
+      c .before .before .before .before .before .v .given .1,
+      c .acting3 .ensures,
+      c .before .ok .ensures,
+      c .before .before .attached-in .ensures,
+      c .before .before .before .next .ensures,
+    )
+
+returns-4 : tie.Need-returns-4
+unfolding effectOf
+returns-4 c = rw (c .before .before .before .enum-told3 .given .1, c .acting4 .ensures, c .before .ok2 .ensures, c .before .before .onward .ensures)
+
+returns-5 : tie.Need-returns-5
+unfolding effectOf
+returns-5 c = rw (c .before .before .before .before .before .v2 .given .1, c .acting5 .ensures, c .before .bound-in .ensures, c .before .before .next2 .ensures)
+
+returns-6 : tie.Need-returns-6
+unfolding effectOf
+returns-6 c = rw (c .before .before .before .enum-told4 .given .1, c .acting6 .ensures, c .before .ok3 .ensures, c .before .before .onward2 .ensures)
+
+returns-7 : tie.Need-returns-7
+unfolding effectOf
+returns-7 c = rw (c .before .before .before .v3 .given .1, c .acting7 .ensures, c .before .onward3 .ensures)
+
+returns-8 : tie.Need-returns-8
+unfolding effectOf
+returns-8 c = rw (c .before .before .v4 .given .1, c .accepting .ensures)
+
+returns-9 : tie.Need-returns-9
+unfolding effectOf
+returns-9 c = rw (c .before .before .before .before .v5 .given .1, c .acting8 .ensures, c .before .ok4 .ensures, c .before .before .less .ensures)
+
+returns-10 : tie.Need-returns-10
+unfolding effectOf
+returns-10 c =
+    rw (
+      c .before .before .before .before .before .before .v6 .given .1,
+      c .acting9 .ensures,
+      c .before .ok5 .ensures,
+      c .before .before .is-joined .ensures,
+      c .before .before .before .onward4 .ensures,
+      c .before .before .before .before .no-number .ensures,
+    )
+
+returns-11 : tie.Need-returns-11
+unfolding effectOf
+returns-11 c = rw (c .before .before .enum-told5 .given .1, c .acting10 .ensures, c .before .onward5 .ensures)
+
+returns-12 : tie.Need-returns-12
+unfolding effectOf
+returns-12 c = rw (c .before .before .before .enum-told6 .given .1, c .acting11 .ensures, c .before .ok6 .ensures, c .before .before .onward6 .ensures)
+
+pub effect-of-spec : {M : Type 1} → statement M
+effect-of-spec =
+    tie.close
+    (tie.spec
+    (λ c. search needs)
+    (λ c κs. search needs)
+    (λ c κs. search needs)
+    (λ c. search needs)
+    (λ c κs. search needs)
+    (λ c κs. search needs)
+    (λ c. search needs)
+    (λ c κs. search needs)
+    (λ c κs. search needs)
+    (λ c κs. search needs)
+    (λ c κs. search needs)
+    (λ c. search needs)
+    (λ c κs. search needs)
+    (λ c κs. search needs)
+    (λ c κs. search needs)
+    (λ c. search needs)
+    (λ c κs. search needs)
+    (λ c κs. search needs)
+    (λ c κs. search needs)
+    (λ c. search needs)
+    (λ c κs. search needs)
+    (λ c κs. search needs)
+    (λ c κs. search needs)
+    (λ c. search needs)
+    (λ c κs. search needs)
+    (λ c κs. search needs)
+    (λ c. search needs)
+    (λ c κs. search needs)
+    (λ c. search needs)
+    (λ c κs. search needs)
+    (λ c κs. search needs)
+    (λ c κs. search needs)
+    (λ c. search needs)
+    (λ c κs. search needs)
+    (λ c κs. search needs)
+    (λ c κs. search needs)
+    (λ c κs. search needs)
+    (λ c κs. search needs)
+    (λ c. search needs)
+    (λ c κs. search needs)
+    (λ c κs. search needs)
+    (λ c. search needs)
+    (λ c κs. search needs)
+    (λ c κs. search needs)
+    (λ c κs. search needs)
+    returns
+    returns-2
+    returns-3
+    returns-4
+    returns-5
+    returns-6
+    returns-7
+    returns-8
+    returns-9
+    returns-10
+    returns-11
+    returns-12)

@@ -1,0 +1,180 @@
+-- The image of the table that a tidy image holds is that image.
+use Prim.Native.Nat.{ℕ, zero, suc, _+_, _*_, _/_, _%_, _≤_, _<_}
+use native.Mathlib.Omega.{arith}
+use mathlib.Core.Path.{_≡_, refl, sym, ap, ap₂, _∙_}
+use mathlib.Core.Bool.{Bool, true, false, not}
+use mathlib.Core.List.{List, [], _∷_, _++_}
+use lib.ListN.{length, getD, take, drop, take-append-drop, length-drop}
+use lib.Seq.{drop-cons, length-take-le, take-all, getD-take, getD-drop}
+use lib.Dec.{eqb, eqb·suc-zero}
+use borrow.Author.Tests.{ltb-true, eqb-true}
+use Rattle.ledger.specs.Choice.{_⇒_∣_}
+use Rattle.ledger.specs.Tally.{oneIf, occ}
+use Rattle.octets.specs.Numbers.{be16At, be32At, be16, be32}
+use Rattle.octets.specs.Runs.{part}
+use Rattle.paper.specs.Base.{numberOf, Slot, stateOf, everyState}
+use Rattle.paper.specs.declared.State.{State}
+use Rattle.paper.specs.declared.State.the-variants.{Unbound, Idle, OutconPending, InconPending, DataXfer, UserResetPending, ProvResetPending}
+use Rattle.table_image.specs.Layout.{ppaBase, slotBase, listed, bit, ppaFrom, streamFrom, waitingFrom, maskIn, slotAt, ppaAt, tableOf, padTo, joined, maskOf, ppaBytes, streamBytes, waitingBytes, slotBytes, headerBytes, imageOf, isState, tidy}
+use Rattle.table_image.proofs.Bits.{mask-only}
+use Rattle.table_image.proofs.Joined.{listed-length, listed-back, each-take, part-length, part-add, joined-listed, pad-listed}
+use Rattle.table_image.proofs.TableBack.{slot-at, be32At-part, flat-joined}
+use Rattle.table_image.proofs.TidyImage.{TidySlot, Tidy, tidy-parts}
+
+-- each number of a list is a byte
+abbrev Bytes : List ℕ → Type 0
+Bytes c = (k : ℕ) → getD c k 0 < 256
+
+part-bytes : (c : List ℕ) (at n : ℕ) → Bytes c → Bytes (part c at n)
+part-bytes c at n h = each-take (λ (x : ℕ). x < 256) n (drop at c) 0 (λ k. rw getD-drop (h (at + k))) (omega arith)
+
+-- the first bytes of a list, one by one
+front : (c : List ℕ) (n : ℕ) → n ≤ length c → listed (λ k. getD c k 0) 0 n ≡ take n c
+front c n h = listed-back (λ k. getD c k 0) (take n c) n 0 (length-take-le n c h) (λ k b. sym (getD-take n c k 0 b))
+
+-- ---- bytes out of their numbers again
+
+be16-back : (a b : ℕ) → b < 256 → be16 (a * 256 + b) ≡ a ∷ b ∷ []
+be16-back a b g =
+    let x : (a * 256 + b) / 256 ≡ a = omega arith in
+    let y : (a * 256 + b) % 256 ≡ b = omega arith in
+    λ i. x i ∷ y i ∷ []
+
+be32-back : (a b c d : ℕ) → b < 256 → c < 256 → d < 256 → be32 (a * 16777216 + b * 65536 + c * 256 + d) ≡ a ∷ b ∷ c ∷ d ∷ []
+be32-back a b c d f g h =
+    let v : ℕ = a * 16777216 + b * 65536 + c * 256 + d in
+    let w : v / 16777216 ≡ a = omega arith in
+    let x : v / 65536 % 256 ≡ b = omega arith in
+    let y : v / 256 % 256 ≡ c = omega arith in
+    let z : v % 256 ≡ d = omega arith in
+    λ i. w i ∷ x i ∷ y i ∷ z i ∷ []
+
+-- one test of those for a state's number
+state-test : (n k : ℕ) (a b : State) → numberOf a ≡ k → (eqb n k ≡ false → numberOf b ≡ n) → numberOf (eqb n k ⇒ a ∣ b) ≡ n
+unfolding _⇒_∣_
+state-test n k a b e f = go (eqb n k) refl
+  where
+    go : (t : Bool) → eqb n k ≡ t → numberOf (t ⇒ a ∣ b) ≡ n
+    go true q = e ∙ sym (eqb-true n k q)
+    go false q = f q
+
+-- the number of the state that a byte tells
+number-back : (n : ℕ) → isState n ≡ true → numberOf (stateOf n) ≡ n
+unfolding isState stateOf
+number-back n h =
+    state-test n 3 Unbound _ refl λ a. state-test n 6 Idle _ refl λ b. state-test n 8 OutconPending _ refl λ c.
+    state-test n 9 InconPending _ refl λ d. state-test n 11 DataXfer _ refl λ e. state-test n 12 UserResetPending _ refl λ f.
+    state-test n 13 ProvResetPending _ refl λ g.
+    last n (omega (arith, ltb-true 0 (occ n everyState) h, ap oneIf a, ap oneIf b, ap oneIf c, ap oneIf d, ap oneIf e, ap oneIf f, ap oneIf g))
+  where
+    last : (n : ℕ) → 0 < oneIf (eqb n 0) → 0 ≡ n
+    last zero h = refl
+    last (suc n) h = absurd (omega (arith, ap oneIf (eqb·suc-zero n)))
+
+-- ---- pieces
+
+module _ (c : List ℕ) (h : Bytes c) where
+  number-again : (at : ℕ) → at + 4 ≤ length c → be32 (be32At c at) ≡ part c at 4
+  number-again at b =
+      let r : List ℕ = part c at 4 in
+      let l : length r ≡ 4 = part-length c at 4 b in
+      let y = part-bytes c at 4 h in
+      ap be32 (sym (be32At-part c at))
+      ∙ be32-back (getD r 0 0) (getD r 1 0) (getD r 2 0) (getD r 3 0) (y 1) (y 2) (y 3)
+      ∙ front r 4 (omega arith)
+      ∙ take-all 4 r (omega arith)
+
+  ppa-again : length c ≡ 10 → ppaBytes (ppaFrom c) ≡ c
+  unfolding ppaFrom
+  ppa-again e =
+      let r : part c 4 6 ≡ drop 4 c = take-all 6 (drop 4 c) (omega (arith, length-drop 4 c)) in
+      ap₂ (λ (a b : List ℕ). a ++ b) (number-again 0 (omega arith)) r ∙ take-append-drop 4 c
+
+  module _ (e : length c ≡ 42) (t : TidySlot c) where
+    stream-again : streamBytes (streamFrom c) ≡ take 9 c
+    unfolding streamBytes streamFrom
+    stream-again =
+        let g : ℕ → ℕ = λ k. getD c k 0 in
+        let n : numberOf (stateOf (g 0)) ≡ g 0 = number-back (g 0) (t .state) in
+        let s : be16 (be16At c 2) ≡ g 2 ∷ g 3 ∷ [] = be16-back (g 2) (g 3) (h 3) in
+        let p : be32 (be32At c 4) ≡ g 4 ∷ g 5 ∷ g 6 ∷ g 7 ∷ [] = be32-back (g 4) (g 5) (g 6) (g 7) (h 5) (h 6) (h 7) in
+        (λ i. (n i ∷ g 1 ∷ []) ++ s i ++ p i ++ (g 8 ∷ [])) ∙ front c 9 (omega arith)
+
+    waiting-again : waitingBytes (waitingFrom c) ≡ getD c 9 0 ∷ part c 10 32
+    unfolding waitingBytes waitingFrom
+    waiting-again =
+        let n : ℕ = getD c 9 0 in
+        let g : ℕ → ℕ = λ k. be32At c (k * 4 + 10) in
+        let p : padTo 32 (joined be32 (listed g 0 n)) ≡ part c 10 32 =
+        pad-listed be32 g c 4 10 n 32 (λ k b. number-again (k * 4 + 10) (omega (arith, t .eight))) (omega (arith, t .eight)) (omega arith) (t .unused) in
+        rw flat-joined (λ i. listed-length g 0 n i ∷ p i)
+
+    slot-again : streamBytes (streamFrom c) ++ waitingBytes (waitingFrom c) ≡ c
+    slot-again =
+        let r : part c 10 32 ≡ drop 10 c = take-all 32 (drop 10 c) (omega (arith, length-drop 10 c)) in
+        rw (stream-again, waiting-again, r, ← drop-cons c 9 0 (omega arith)) (take-append-drop 9 c)
+
+-- ---- the image
+
+-- 0 and 1, as flags
+flag-again : (n : ℕ) → n ≤ 1 → (oneIf (eqb n 1) ≡ n) × (oneIf (not (eqb n 0)) ≡ n)
+flag-again zero h = (refl, refl)
+flag-again (suc zero) h = (refl, refl)
+flag-again (suc (suc n)) h = absurd (omega arith)
+
+module _ (img : List ℕ) (t : Tidy img) where
+  h : Bytes img
+  h = t .bytes
+
+  bit-again : (i : ℕ) → oneIf (not (slotAt img i .isOpen)) ≡ bit (maskIn img) i
+  unfolding slotAt
+  bit-again i = flag-again (bit (maskIn img) i) (omega arith) .1
+
+  slots-length : length (tableOf img .slots) ≡ 16
+  unfolding tableOf
+  slots-length = refl
+
+  mask-again : maskOf (tableOf img .slots) ≡ maskIn img
+  mask-again =
+      mask-only (tableOf img .slots) (maskIn img) (rw slots-length (omega (arith, h 0, h 1))) λ i b.
+      let e : i < 16 = omega (arith, slots-length) in
+      sym (ap (λ (x : Slot). oneIf (not (x .isOpen))) (slot-at img i e) ∙ bit-again i)
+
+  memory-again : oneIf (tableOf img .remembers) ≡ getD img 2 0
+  unfolding tableOf
+  memory-again = flag-again (getD img 2 0) (t .memory) .0
+
+  count-again : length (tableOf img .ppas) ≡ getD img 3 0
+  unfolding tableOf
+  count-again = listed-length (ppaAt img) 0 (getD img 3 0)
+
+  counter-again : be32 (tableOf img .counter) ≡ getD img 4 0 ∷ getD img 5 0 ∷ getD img 6 0 ∷ getD img 7 0 ∷ []
+  unfolding tableOf
+  counter-again = be32-back (getD img 4 0) (getD img 5 0) (getD img 6 0) (getD img 7 0) (h 5) (h 6) (h 7)
+
+  ppas-again : padTo 80 (joined ppaBytes (tableOf img .ppas)) ≡ part img 8 80
+  unfolding tableOf ppaAt
+  ppas-again =
+      pad-listed ppaBytes (ppaAt img) img 10 8 (getD img 3 0) 80
+      (λ k b. ppa-again (part img (ppaBase k) 10) (part-bytes img (ppaBase k) 10 h) (part-length img (ppaBase k) 10 (omega (arith, t .size, t .few))))
+      (omega (arith, t .few)) (omega (arith, t .size)) (t .unused)
+
+  slots-again : joined slotBytes (tableOf img .slots) ≡ part img 88 672
+  unfolding tableOf slotAt
+  slots-again =
+      joined-listed slotBytes (slotAt img) img 42 88 0 16 λ i b.
+      slot-again (part img (slotBase i) 42) (part-bytes img (slotBase i) 42 h) (part-length img (slotBase i) 42 (omega (arith, t .size))) (t .slots i (omega arith))
+
+  image-again : imageOf (tableOf img) ≡ img
+  unfolding imageOf headerBytes
+  image-again =
+      let m : be16 (maskOf (tableOf img .slots)) ≡ getD img 0 0 ∷ getD img 1 0 ∷ [] = rw mask-again (be16-back (getD img 0 0) (getD img 1 0) (h 1)) in
+      (λ i. m i ++ (memory-again i ∷ count-again i ∷ []) ++ counter-again i ++ ppas-again i ++ slots-again i)
+      ∙ ap (λ (r : List ℕ). r ++ part img 8 80 ++ part img 88 672) (front img 8 (omega (arith, t .size)))
+      ∙ ap (λ (r : List ℕ). r ++ part img 88 672) (sym (part-add img 0 8 80))
+      ∙ sym (part-add img 0 88 672)
+      ∙ take-all 760 img (omega (arith, t .size))
+
+-- a tidy image is that of the table that it holds
+pub image-back : (img : List ℕ) → tidy img ≡ true → imageOf (tableOf img) ≡ img
+image-back img e = image-again img (tidy-parts img e)

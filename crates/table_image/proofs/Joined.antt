@@ -1,0 +1,191 @@
+-- Lists by their elements, and runs of pieces of one width laid end to end: a piece read or replaced, zeros behind them.
+use Prim.Native.Nat.{ℕ, zero, suc, _+_, _-_, _*_, _≤_, _<_}
+use native.Mathlib.Omega.{arith}
+use native.Mathlib.Nat.{zero-mul, suc-mul}
+use mathlib.Core.Path.{_≡_, refl, sym, ap, _∙_}
+use mathlib.Core.Bool.{true}
+use mathlib.Core.List.{List, [], _∷_, _++_, append-assoc, append-nil}
+use lib.ListN.{length, getD, take, drop, set, replicate, length-append, length-replicate, length-drop, replicate-append-replicate}
+use lib.Seq.{take-at, drop-at, take-length, take-add, drop-drop, length-take-le, getD-take, getD-drop, split-at, set-split, ext-getD}
+use Rattle.octets.specs.Numbers.{be16At, be32At}
+use Rattle.octets.specs.Runs.{part, paste, allZero}
+use Rattle.octets.proofs.Laws.{paste-middle, zero-replicate}
+use Rattle.table_image.specs.Layout.{listed, joined, padTo}
+
+-- ---- elements
+
+module _ {A : Type 0} where
+  -- the length of a list that a function gives
+  pub listed-length : (f : ℕ → A) (i n : ℕ) → length (listed f i n) ≡ n
+  listed-length f i zero = refl
+  listed-length f i (suc n) = ap suc (listed-length f (suc i) n)
+
+  -- its elements
+  pub listed-at : (f : ℕ → A) (i n k : ℕ) (d : A) → k < n → getD (listed f i n) k d ≡ f (i + k)
+  listed-at f i zero k d h = absurd (omega arith)
+  listed-at f i (suc n) zero d h = let e : i ≡ i + 0 = omega arith in ap f e
+  listed-at f i (suc n) (suc k) d h =
+      let e : suc i + k ≡ i + suc k = omega arith in
+      listed-at f (suc i) n k d (omega arith) ∙ ap f e
+
+  -- a list whose elements a function gives
+  pub listed-back : (f : ℕ → A) (l : List A) (n : ℕ) (d : A) → length l ≡ n → ((k : ℕ) → k < n → f k ≡ getD l k d) → listed f 0 n ≡ l
+  listed-back f l n d e h =
+      ext-getD d (listed f 0 n) l (listed-length f 0 n ∙ sym e) λ k b.
+      let c : k < n = omega (arith, listed-length f 0 n) in
+      let z : 0 + k ≡ k = omega arith in
+      listed-at f 0 n k d c ∙ ap f z ∙ h k c
+
+  -- what holds of a function's values holds of each element
+  pub each-listed : (P : A → Type 0) (f : ℕ → A) (i n : ℕ) (d : A) → ((k : ℕ) → k < i + n → P (f k)) → P d
+      → (k : ℕ) → P (getD (listed f i n) k d)
+  each-listed P f i zero d h p k = p
+  each-listed P f i (suc n) d h p zero = h i (omega arith)
+  each-listed P f i (suc n) d h p (suc k) = each-listed P f (suc i) n d (λ j b. h j (omega arith)) p k
+
+  -- what holds of each element holds with one set
+  pub each-set : (P : A → Type 0) (l : List A) (k : ℕ) (x d : A) → ((i : ℕ) → P (getD l i d)) → P x
+      → (i : ℕ) → P (getD (set l k x) i d)
+  each-set P [] k x d h p i = h i
+  each-set P (y ∷ l) zero x d h p zero = p
+  each-set P (y ∷ l) zero x d h p (suc i) = h (suc i)
+  each-set P (y ∷ l) (suc k) x d h p zero = h 0
+  each-set P (y ∷ l) (suc k) x d h p (suc i) = each-set P l k x d (λ j. h (suc j)) p i
+
+  -- with one more behind
+  pub each-more : (P : A → Type 0) (l : List A) (x d : A) → ((i : ℕ) → P (getD l i d)) → P x
+      → (i : ℕ) → P (getD (l ++ (x ∷ [])) i d)
+  each-more P [] x d h p zero = p
+  each-more P [] x d h p (suc i) = h i
+  each-more P (y ∷ l) x d h p zero = h 0
+  each-more P (y ∷ l) x d h p (suc i) = each-more P l x d (λ j. h (suc j)) p i
+
+  -- of the first ones alone
+  pub each-take : (P : A → Type 0) (n : ℕ) (l : List A) (d : A) → ((i : ℕ) → P (getD l i d)) → P d
+      → (i : ℕ) → P (getD (take n l) i d)
+  each-take P zero l d h p i = p
+  each-take P (suc n) [] d h p i = p
+  each-take P (suc n) (x ∷ l) d h p zero = h 0
+  each-take P (suc n) (x ∷ l) d h p (suc i) = each-take P n l d (λ j. h (suc j)) p i
+
+-- ---- runs of pieces
+
+module _ {A : Type 0} (f : A → List ℕ) where
+  joined-append : (l m : List A) → joined f (l ++ m) ≡ joined f l ++ joined f m
+  joined-append [] m = refl
+  joined-append (x ∷ l) m =
+      ap (λ (r : List ℕ). f x ++ r) (joined-append l m) ∙ sym (append-assoc (f x) (joined f l) (joined f m))
+
+  -- one piece more
+  pub joined-more : (l : List A) (x : A) → joined f (l ++ (x ∷ [])) ≡ joined f l ++ f x
+  joined-more l x = joined-append l (x ∷ []) ∙ ap (λ (r : List ℕ). joined f l ++ r) (append-nil (f x))
+
+  -- an element replaced by one with the same piece
+  pub joined-kept : (d : A) (l : List A) (k : ℕ) (x : A) → f x ≡ f (getD l k d) → joined f (set l k x) ≡ joined f l
+  joined-kept d [] k x e = refl
+  joined-kept d (y ∷ l) zero x e = ap (λ (r : List ℕ). r ++ joined f l) e
+  joined-kept d (y ∷ l) (suc k) x e = ap (λ (r : List ℕ). f y ++ r) (joined-kept d l k x e)
+
+  module _ (d : A) (w : ℕ) where
+    before-length : (l : List A) (k : ℕ) → ((i : ℕ) → length (f (getD l i d)) ≡ w) → k ≤ length l → length (joined f (take k l)) ≡ k * w
+    before-length l zero g b = omega (arith, zero-mul w)
+    before-length [] (suc k) g b = absurd (omega arith)
+    before-length (x ∷ l) (suc k) g b =
+        omega (arith, length-append (f x) (joined f (take k l)), g 0, suc-mul k w, before-length l k (λ i. g (suc i)) (omega arith))
+
+    -- the length of pieces of one width
+    pub joined-length : (l : List A) → ((i : ℕ) → length (f (getD l i d)) ≡ w) → length (joined f l) ≡ length l * w
+    joined-length l g = rw take-length at (before-length l (length l) g (omega arith))
+
+    module _ (h : List ℕ) (b : ℕ) (l : List A) (k : ℕ) (e : length h ≡ b) (g : (i : ℕ) → length (f (getD l i d)) ≡ w) (n : k < length l) where
+      -- what stands before piece k, and where it ends; what stands behind it
+      ahead : List ℕ
+      ahead = h ++ joined f (take k l)
+
+      ahead-length : length ahead ≡ k * w + b
+      unfolding ahead
+      ahead-length = omega (arith, length-append h (joined f (take k l)), before-length l k g (omega arith))
+
+      around : joined f l ≡ joined f (take k l) ++ (f (getD l k d) ++ joined f (drop (suc k) l))
+      around = ap (joined f) (split-at l k d n) ∙ joined-append (take k l) (getD l k d ∷ drop (suc k) l)
+
+      -- piece k, between other bytes
+      pub joined-at : (q : List ℕ) → part (h ++ (joined f l ++ q)) (k * w + b) w ≡ f (getD l k d)
+      unfolding ahead
+      joined-at q =
+          let r : List ℕ = joined f (drop (suc k) l) ++ q in
+          let j : h ++ (joined f l ++ q) ≡ ahead ++ (f (getD l k d) ++ r) = rw around (simp append-assoc) in
+          rw (j, drop-at ahead (f (getD l k d) ++ r) (k * w + b) ahead-length) (take-at (f (getD l k d)) r w (g k))
+
+      -- the front of piece k is replaced
+      pub joined-paste : (x : A) (a c z : List ℕ) → f (getD l k d) ≡ a ++ z → f x ≡ c ++ z → length a ≡ length c
+          → paste (h ++ joined f l) (k * w + b) c ≡ h ++ joined f (set l k x)
+      unfolding ahead
+      joined-paste x a c z o y m =
+          let q : List ℕ = z ++ joined f (drop (suc k) l) in
+          let s : h ++ joined f l ≡ ahead ++ a ++ q = rw (around, o) (simp append-assoc) in
+          let v : h ++ joined f (set l k x) ≡ ahead ++ c ++ q = rw (set-split l k x n, joined-append, y) (simp append-assoc) in
+          ap (λ (r : List ℕ). paste r (k * w + b) c) s ∙ paste-middle ahead a c q (k * w + b) ahead-length m ∙ sym v
+
+-- ---- zeros behind
+
+-- the length with them
+pub pad-length : (n : ℕ) (l : List ℕ) → length l ≤ n → length (padTo n l) ≡ n
+pad-length n l h = simp (length-append, length-replicate) (omega arith)
+
+-- more bytes over the first of them
+pub pad-more : (h l s q : List ℕ) (n b : ℕ) → length h + length l ≡ b → length l + length s ≤ n
+    → paste (h ++ (padTo n l ++ q)) b s ≡ h ++ (padTo n (l ++ s) ++ q)
+pad-more h l s q n b e f =
+    let r : List ℕ = replicate (n - length (l ++ s)) 0 in
+    let m : n - length l ≡ length s + (n - length (l ++ s)) = omega (arith, length-append l s) in
+    let o : h ++ (padTo n l ++ q) ≡ (h ++ l) ++ replicate (length s) 0 ++ (r ++ q) = rw (m, ← replicate-append-replicate) (simp append-assoc) in
+    ap (λ (i : List ℕ). paste i b s) o
+    ∙ paste-middle (h ++ l) (replicate (length s) 0) s (r ++ q) b (omega (arith, length-append h l)) (length-replicate (length s) 0)
+    ∙ simp append-assoc
+
+-- ---- bytes as pieces
+
+-- the length of a part
+pub part-length : (c : List ℕ) (at n : ℕ) → at + n ≤ length c → length (part c at n) ≡ n
+part-length c at n h = length-take-le n (drop at c) (omega (arith, length-drop at c))
+
+-- a part as two
+pub part-add : (c : List ℕ) (at n m : ℕ) → part c at (n + m) ≡ part c at n ++ part c (at + n) m
+part-add c at n m = take-add n m (drop at c) ∙ ap (λ (r : List ℕ). part c at n ++ take m r) (drop-drop n at c)
+
+-- a byte of a part, which is byte m of the whole
+pub part-byte : (c : List ℕ) (at n k m : ℕ) → k < n → at + k ≡ m → getD (part c at n) k 0 ≡ getD c m 0
+part-byte c at n k m h e = getD-take n (drop at c) k 0 h ∙ getD-drop at c k 0 ∙ ap (λ (j : ℕ). getD c j 0) e
+
+-- a number of two bytes, and one of four
+pub part-be16 : (c : List ℕ) (at n k m : ℕ) → k + 1 < n → at + k ≡ m → be16At (part c at n) k ≡ be16At c m
+part-be16 c at n k m h e = omega (arith, part-byte c at n k m (omega arith) e, part-byte c at n (k + 1) (m + 1) h (omega arith))
+
+pub part-be32 : (c : List ℕ) (at n k m : ℕ) → k + 3 < n → at + k ≡ m → be32At (part c at n) k ≡ be32At c m
+part-be32 c at n k m h e =
+    omega (arith, part-byte c at n k m (omega arith) e, part-byte c at n (k + 1) (m + 1) (omega arith) (omega arith), part-byte c at n (k + 2) (m + 2) (omega arith) (omega arith), part-byte c at n (k + 3) (m + 3) h (omega arith))
+
+module _ {A : Type 0} (f : A → List ℕ) (g : ℕ → A) (c : List ℕ) (w b : ℕ) where
+  -- pieces read one after the other
+  pub joined-listed : (i n : ℕ) → ((k : ℕ) → k < i + n → f (g k) ≡ part c (k * w + b) w)
+      → joined f (listed g i n) ≡ part c (i * w + b) (n * w)
+  joined-listed i zero h = rw zero-mul
+  joined-listed i (suc n) h =
+      let e : suc n * w ≡ w + n * w = omega (arith, suc-mul n w) in
+      let p : suc i * w + b ≡ i * w + b + w = omega (arith, suc-mul i w) in
+      let r : joined f (listed g (suc i) n) ≡ part c (suc i * w + b) (n * w) = joined-listed (suc i) n (λ k l. h k (omega arith)) in
+      rw (h i (omega arith), r, p, e) (sym (part-add c (i * w + b) w (n * w)))
+
+  -- with zeros behind them
+  pub pad-listed : (n m : ℕ) → ((k : ℕ) → k < n → f (g k) ≡ part c (k * w + b) w) → n * w ≤ m → b + m ≤ length c
+      → allZero (part c (n * w + b) (m - n * w)) ≡ true → padTo m (joined f (listed g 0 n)) ≡ part c b m
+  pad-listed n m h l o z =
+      let x : List ℕ = part c (n * w + b) (m - n * w) in
+      let y : length x ≡ m - n * w = part-length c (n * w + b) (m - n * w) (omega arith) in
+      let r : x ≡ replicate (m - n * w) 0 = zero-replicate x z ∙ ap (λ (a : ℕ). replicate a 0) y in
+      let e : 0 * w + b ≡ b = omega (arith, zero-mul w) in
+      let j : joined f (listed g 0 n) ≡ part c b (n * w) = rw e at (joined-listed 0 n (λ k a. h k (omega arith))) in
+      let p : b + n * w ≡ n * w + b = omega arith in
+      let q : n * w + (m - n * w) ≡ m = omega arith in
+      rw (j, part-length c b (n * w) (omega arith), ← r, ← p) (sym (part-add c b (n * w) (m - n * w)) ∙ ap (part c b) q)

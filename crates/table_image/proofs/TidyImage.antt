@@ -1,0 +1,108 @@
+-- What a tidy image is, part by part, and that the table in it is shaped.
+use Prim.Native.Nat.{ℕ, zero, suc, _+_, _-_, _*_, _≤_, _<_}
+use native.Mathlib.Omega.{arith}
+use mathlib.Core.Path.{_≡_, refl, sym, ap, _∙_}
+use mathlib.Core.Bool.{Bool, true}
+use mathlib.Core.List.{List, [], _∷_}
+use lib.ListN.{length, getD}
+use lib.Dec.{eqb, ltb, leb}
+use borrow.Author.Tests.{ltb-true, leb-true, eqb-true}
+use Rattle.ledger.specs.Choice.{both}
+use Rattle.ledger.specs.Tally.{allOf}
+use Rattle.ledger.proofs.Tallies.{both-of}
+use Rattle.octets.specs.Numbers.{be32At}
+use Rattle.octets.specs.Runs.{part, allZero}
+use Rattle.paper.specs.Base.{Slot, closed, noPpa}
+use Rattle.paper.specs.declared.Ppa.{Ppa}
+use Rattle.table_image.specs.Layout.{imageSize, ppaBase, slotBase, ppaFrom, waitingFrom, slotAt, ppaAt, tableOf, isState, tidySlot, slotParts, tidyPpas, areBytes, tidy}
+use Rattle.table_image.specs.Shape.{Shaped}
+use Rattle.table_image.proofs.Joined.{listed-length, listed-at, each-listed, part-length}
+
+-- ---- the tests' parts
+
+-- of a slot
+pub record TidySlot (c : List ℕ) : Type 0 where
+  pub state : isState (getD c 0 0) ≡ true
+  pub eight : getD c 9 0 ≤ 8
+  pub unused : allZero (part c (getD c 9 0 * 4 + 10) (32 - getD c 9 0 * 4)) ≡ true
+
+-- of an image
+pub record Tidy (img : List ℕ) : Type 0 where
+  pub size : length img ≡ 760
+  pub bytes : (k : ℕ) → getD img k 0 < 256
+  pub memory : getD img 2 0 ≤ 1
+  pub few : getD img 3 0 ≤ 8
+  pub unused : allZero (part img (ppaBase (getD img 3 0)) (80 - getD img 3 0 * 10)) ≡ true
+  pub slots : (i : ℕ) → i < 16 → TidySlot (part img (slotBase i) 42)
+
+all-at : {A : Type 0} (p : A → Bool) (l : List A) (k : ℕ) (d : A) → allOf p l ≡ true → k < length l → p (getD l k d) ≡ true
+all-at p [] k d h b = absurd (omega arith)
+all-at p (x ∷ l) zero d h b = both-of (p x) (allOf p l) h .0
+all-at p (x ∷ l) (suc k) d h b = all-at p l k d (both-of (p x) (allOf p l) h .1) (omega arith)
+
+bytes-below : (l : List ℕ) → areBytes l ≡ true → (k : ℕ) → getD l k 0 < 256
+bytes-below [] h k = omega arith
+bytes-below (x ∷ l) h zero = ltb-true x 256 (both-of (ltb x 256) (areBytes l) h .0)
+bytes-below (x ∷ l) h (suc k) = bytes-below l (both-of (ltb x 256) (areBytes l) h .1) k
+
+slot-passes : (img : List ℕ) (i : ℕ) → i < 16 → allOf tidySlot (slotParts img) ≡ true → tidySlot (part img (slotBase i) 42) ≡ true
+slot-passes img i b h =
+    let f : ℕ → List ℕ = λ k. part img (slotBase k) 42 in
+    let z : 0 + i ≡ i = omega arith in
+    ap tidySlot (sym (listed-at f 0 16 i [] b ∙ ap f z)) ∙ all-at tidySlot (slotParts img) i [] h b
+
+slot-parts : (c : List ℕ) → tidySlot c ≡ true → TidySlot c
+unfolding tidySlot
+slot-parts c h =
+    let n : ℕ = getD c 9 0 in
+    let z : Bool = allZero (part c (n * 4 + 10) (32 - n * 4)) in
+    let a = both-of (isState (getD c 0 0)) (both (leb n 8) z) h in
+    let b = both-of (leb n 8) z (a .1) in
+    record { state = a .0; eight = leb-true n 8 (b .0); unused = b .1 }
+
+-- an image that passes the test has those parts
+pub tidy-parts : (img : List ℕ) → tidy img ≡ true → Tidy img
+unfolding tidy
+tidy-parts img h =
+    let n : ℕ = getD img 3 0 in
+    let z : Bool = allZero (part img (ppaBase n) (80 - n * 10)) in
+    let rest : Bool = allOf tidySlot (slotParts img) in
+    let a = both-of (eqb (length img) imageSize) (both (areBytes img) (both (leb (getD img 2 0) 1) (both (tidyPpas img) rest))) h in
+    let e = both-of (areBytes img) (both (leb (getD img 2 0) 1) (both (tidyPpas img) rest)) (a .1) in
+    let b = both-of (leb (getD img 2 0) 1) (both (tidyPpas img) rest) (e .1) in
+    let c = both-of (tidyPpas img) rest (b .1) in
+    let d = both-of (leb n 8) z (c .0) in
+    record {
+      size = eqb-true (length img) 760 (a .0);
+      bytes = bytes-below img (e .0);
+      memory = leb-true (getD img 2 0) 1 (b .0);
+      few = leb-true n 8 (d .0);
+      unused = d .1;
+      slots = λ i l. slot-parts (part img (slotBase i) 42) (slot-passes img i l (c .1));
+    }
+
+-- ---- the table's shape
+
+mac-length : (img : List ℕ) (k : ℕ) → ppaBase k + 10 ≤ length img → length (ppaAt img k .mac) ≡ 6
+unfolding ppaAt ppaFrom
+mac-length img k h = part-length (part img (ppaBase k) 10) 4 6 (omega (arith, part-length img (ppaBase k) 10 h))
+
+waiting-few : (img : List ℕ) (i : ℕ) → TidySlot (part img (slotBase i) 42) → length (slotAt img i .waiting) ≤ 8
+unfolding slotAt waitingFrom
+waiting-few img i s =
+    let c : List ℕ = part img (slotBase i) 42 in
+    omega (arith, listed-length (λ k. be32At c (k * 4 + 10)) 0 (getD c 9 0), s .eight)
+
+-- the table in a tidy image is shaped
+pub shaped-table : (img : List ℕ) → tidy img ≡ true → Shaped (tableOf img)
+unfolding tableOf
+shaped-table img h =
+    let t : Tidy img = tidy-parts img h in
+    let n : ℕ = getD img 3 0 in
+    record {
+      sixteen = refl;
+      few = omega (arith, listed-length (ppaAt img) 0 n, t .few);
+      macs = each-listed (λ (p : Ppa). length (p .mac) ≡ 6) (ppaAt img) 0 n noPpa (λ k b. mac-length img k (omega (arith, t .size, t .few))) refl;
+      eight =
+          each-listed (λ (x : Slot). length (x .waiting) ≤ 8) (slotAt img) 0 16 closed (λ i b. waiting-few img i (t .slots i (omega arith))) (omega arith);
+    }

@@ -1,0 +1,51 @@
+use Prim.Native.Nat.{ℕ, _+_, _^_}
+use mathlib.Core.Bool.{Bool, not}
+use mathlib.Core.Path.{sym, ap, ap₂, _∙_}
+use mathlib.Core.List.{List}
+use denote.Ref.{now}
+use lib.ListN.{replicate}
+use Rattle.ledger.specs.Tally.{oneIf}
+use Rattle.octets.specs.Numbers.{be16}
+use Rattle.octets.specs.Runs.{paste}
+use Rattle.table_image.specs.Layout.{slotBase, bit, tableOf}
+use Rattle.table_image.proofs.Lending.{mask-lent, bit-lent}
+use Rattle.table_image.proofs.Stored.{store-closing}
+use borrow.Author.Needs.{needs}
+use Rattle.table_image.proofs.close_slot.Statement.{statement}
+use Rattle.table_image.proofs.close_slot.Tie as tie
+
+mask-with-requires : tie.Need-mask-with-requires
+mask-with-requires c κs =
+    let a = c .before .before .before in
+    let i = a .args .i in (
+      a .pre .0,
+      ap (λ (m : ℕ). bit m i) (c .mask-in .ensures) ∙ bit-lent (now (a .args .img)) (a .pre .2) i (a .pre .0)
+          ∙ ap (λ (b : Bool). oneIf (not b)) (a .pre .3),
+    )
+
+returns : tie.Need-returns
+returns c =
+    let a = c .before .before .before .before .before .before .before .before .before .before .before .before .before in
+    let img = now (a .args .img) in
+    let i = a .args .i in
+    let l = a .pre .2 in
+    c .before .before .put-bytes .ensures
+    ∙ ap (λ (r : List ℕ). paste r (slotBase i) (replicate 42 0))
+    (c .before .before .before .before .before .before .before .put-number16 .ensures
+    ∙ ap₂ (λ (r : List ℕ) (m : ℕ). paste r 0 (be16 m)) (sym (l .same))
+    (c .before .before .before .before .before .before .before .before .before .mask-with .ensures ∙ ap (λ (m : ℕ). m + 2 ^ i) (c .before .before .before .before .before .before .before .before .before .before .mask-in .ensures ∙ mask-lent img l)))
+    ∙ store-closing (tableOf img) (l .shaped) i (a .pre .0) (a .pre .3)
+
+pub close-slot-spec : {M : Type 1} → statement M
+close-slot-spec =
+    tie.close
+    (tie.spec
+    (λ c κs. search needs)
+    mask-with-requires
+    (λ c κs. search needs)
+    (λ c. search needs)
+    (λ c. search needs)
+    (λ c. search needs)
+    (λ c κs. search needs)
+    (λ c. search needs)
+    returns)

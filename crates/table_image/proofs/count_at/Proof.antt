@@ -1,0 +1,26 @@
+use Prim.Native.Nat.{_+_, _*_}
+use mathlib.Core.Path.{refl, sym, ap, _∙_}
+use native.Mathlib.Omega.{arith}
+use denote.Ref.{now}
+use lib.ListN.{length, getD}
+use Rattle.octets.specs.Numbers.{be32At}
+use Rattle.octets.specs.Runs.{part}
+use Rattle.paper.specs.Base.{Slot}
+use Rattle.table_image.specs.Layout.{slotBase, waitingFrom, slotAt}
+use Rattle.table_image.proofs.Joined.{listed-length, part-byte}
+use Rattle.table_image.proofs.TableBack.{slot-at}
+use borrow.Author.Needs.{needs}
+use Rattle.table_image.proofs.count_at.Statement.{statement}
+use Rattle.table_image.proofs.count_at.Tie as tie
+
+returns : tie.Need-returns
+unfolding slotAt waitingFrom
+returns c =
+    let a = c .before in
+    let img = now (a .args .img) in
+    let i = a .args .i in
+    sym (ap (λ (x : Slot). length (x .waiting)) (slot-at img i (a .pre .0)) ∙ listed-length (λ k. be32At (part img (slotBase i) 42) (k * 4 + 10)) 0 (getD (part img (slotBase i) 42) 9 0) ∙ part-byte img (slotBase i) 42 9 (slotBase i + 9) (omega arith) refl)
+
+pub count-at-spec : {M : Type 1} → statement M
+count-at-spec =
+    tie.close (tie.spec (λ c. search needs) (λ c. search needs) (λ c. search needs) (λ c. search needs) returns)

@@ -1,0 +1,23 @@
+use Prim.Native.Nat.{_+_}
+use mathlib.Core.Path.{refl, sym, ap, _∙_}
+use native.Mathlib.Omega.{arith}
+use denote.Ref.{now}
+use Rattle.paper.specs.Base.{Slot}
+use Rattle.table_image.specs.Layout.{slotBase, streamFrom, slotAt}
+use Rattle.table_image.proofs.Joined.{part-byte}
+use Rattle.table_image.proofs.TableBack.{slot-at}
+use borrow.Author.Needs.{needs}
+use Rattle.table_image.proofs.granted_at.Statement.{statement}
+use Rattle.table_image.proofs.granted_at.Tie as tie
+
+returns : tie.Need-returns
+unfolding slotAt streamFrom
+returns c =
+    let a = c .before in
+    let img = now (a .args .img) in
+    let i = a .args .i in
+    sym (ap (λ (x : Slot). x .stream .granted) (slot-at img i (a .pre .0)) ∙ part-byte img (slotBase i) 42 8 (slotBase i + 8) (omega arith) refl)
+
+pub granted-at-spec : {M : Type 1} → statement M
+granted-at-spec =
+    tie.close (tie.spec (λ c. search needs) (λ c. search needs) (λ c. search needs) (λ c. search needs) returns)

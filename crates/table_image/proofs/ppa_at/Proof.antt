@@ -1,0 +1,25 @@
+-- `image::ppa_at` meets its contract: the bytes of a slot are bytes of the image.
+use Prim.Native.Nat.{ℕ, _+_}
+use mathlib.Core.Path.{refl, sym, ap, _∙_}
+use native.Mathlib.Omega.{arith}
+use denote.Ref.{now}
+use Rattle.paper.specs.Base.{Slot}
+use Rattle.table_image.specs.Layout.{slotBase, streamFrom, slotAt}
+use Rattle.table_image.proofs.Joined.{part-be32}
+use Rattle.table_image.proofs.TableBack.{slot-at}
+use borrow.Author.Needs.{needs}
+use Rattle.table_image.proofs.ppa_at.Statement.{statement}
+use Rattle.table_image.proofs.ppa_at.Tie as tie
+
+returns : tie.Need-returns
+unfolding slotAt streamFrom
+returns c =
+    let a = c .before .before in
+    let img = now (a .args .img) in
+    let i = a .args .i in
+    ap (λ (n : ℕ). record { 0 = n }) (c .number32-inside .ensures ∙ sym (ap (λ (x : Slot). x .stream .ppa .0) (slot-at img i (a .pre .0)) ∙ part-be32 img (slotBase i) 42 4 (slotBase i + 4) (omega arith) refl))
+
+pub ppa-at-spec : {M : Type 1} → statement M
+ppa-at-spec =
+    tie.close
+    (tie.spec (λ c. search needs) (λ c. search needs) (λ c. search needs) (λ c κs. search needs) returns)

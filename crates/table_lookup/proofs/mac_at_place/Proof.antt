@@ -1,0 +1,39 @@
+use native.Mathlib.Nat.{add-sub-cancel-left}
+use native.Mathlib.Omega.{arith}
+use denote.Ref.{now}
+use borrow.Author.Needs.{needs}
+use Rattle.octets.specs.Runs.{part}
+use Rattle.table_image.specs.Layout.{ppaBase, ppaAt, ppaFrom}
+use Rattle.table_image.proofs.Joined.{part-length}
+use Rattle.table_lookup.proofs.Laws.{ppa-place}
+use lib.ListN.{replicate}
+use Rattle.octets.proofs.Laws.{paste-whole}
+use Rattle.table_lookup.proofs.mac_at_place.Statement.{statement}
+use Rattle.table_lookup.proofs.mac_at_place.Tie as tie
+
+returns : tie.Need-returns
+unfolding ppaAt ppaFrom
+returns c =
+    let a = c .before .before .before .before .before .before in
+    let img = now (a .args .img) in
+    let at = ppaBase (a .args .k) in
+    let n = part-length img at 10 (omega (arith, a .pre .0, a .pre .1, a .pre .2 .shaped .few)) in
+    rw (ppa-place img (a .args .k) (a .pre .0), c .before .put-bytes .ensures, add-sub-cancel-left)
+    (paste-whole (replicate 6 0) (part (part img at 10) 4 6) (omega (arith, n, part-length (part img at 10) 4 6 (omega (arith, n)))))
+
+pub mac-at-place-spec : {M : Type 1} → statement M
+mac-at-place-spec =
+    tie.close
+    (tie.spec
+    (λ c. search needs)
+    (λ c. search needs)
+    (λ c. search needs)
+    (λ c. search needs)
+    (λ c. search needs)
+    (λ c. search needs)
+    (λ c. search needs)
+    (λ c. search needs)
+    (λ c. search needs)
+    (λ c. search needs)
+    (λ c κs. search needs)
+    returns)

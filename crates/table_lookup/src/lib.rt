@@ -1,0 +1,133 @@
+// What is asked of the PPAs and of the other streams.
+ghost use mathlib.Core.Path.{_≡_};
+ghost use Prim.Native.Nat.{suc, _<_};
+ghost use lib.Dec.{eqb};
+ghost use lib.ListN.{length, getD};
+ghost use Rattle.ledger.specs.Choice.{either};
+ghost use Rattle.ledger.specs.Tally.{firstOf};
+ghost use Rattle.paper.specs.Base.{stream, noPpa, knows, macOf};
+ghost use Rattle.paper.specs.Saps.{listens, listener, isListenedFor};
+ghost use Rattle.paper.specs.Sight.{carrierOf};
+ghost use Rattle.paper.specs.declared.Ppa.{Ppa};
+ghost use Rattle.table_image.specs.Layout.{tableOf};
+ghost use Rattle.table_image.specs.Lent.{Lent};
+use paper::Carrier;
+use paper::PpaNumber;
+use paper::Token;
+
+// The PPA at a place has that number.
+fn is_ppa(img: &[u8], p: PpaNumber, k: usize) -> bool
+    requires { ⌜ (k < length (tableOf (now img) .ppas)) × (length (now img) ≡ 760) × Lent (now img) ⌝ }
+    ensures { λ r. ⌜ r ≡ eqb (getD (tableOf (now (img .entry)) .ppas) k noPpa .number .0) (p .0) ⌝ }
+{
+    let at = k * 10 + 8;
+    octets::number32_inside(&img[at..at + 10], 0) == p.0
+}
+
+// The place of the PPA with a number; as many as there are PPAs where none has it.
+fn ppa_place(img: &[u8], p: PpaNumber) -> usize
+    requires { ⌜ (length (now img) ≡ 760) × Lent (now img) ⌝ }
+    ensures { λ r. ⌜ r ≡ firstOf (λ (q : Ppa). eqb (q .number .0) (p .0)) (tableOf (now (img .entry)) .ppas) ⌝ }
+{
+    let total = table_image::ppa_total(img) as usize;
+    let mut i: usize = 0;
+    while i < total {
+        if is_ppa(img, p, i) {
+            return i;
+        }
+        i += 1;
+    }
+    total
+}
+
+pub fn knows(img: &[u8], p: PpaNumber) -> bool
+    requires { ⌜ (length (now img) ≡ 760) × Lent (now img) ⌝ }
+    ensures { λ r. ⌜ r ≡ knows (tableOf (now (img .entry))) p ⌝ }
+{
+    ppa_place(img, p) < table_image::ppa_total(img) as usize
+}
+
+// The MAC of the PPA at a place.
+fn mac_at_place(img: &[u8], k: usize) -> [u8; 6]
+    requires { ⌜ (k < length (tableOf (now img) .ppas)) × (length (now img) ≡ 760) × Lent (now img) ⌝ }
+    ensures { λ r. ⌜ r ≡ getD (tableOf (now (img .entry)) .ppas) k noPpa .mac ⌝ }
+{
+    let at = k * 10 + 8;
+    let place = &img[at..at + 10];
+    let mut mac = [0u8; 6];
+    octets::put_bytes(&mut mac, 0, &place[4..10]);
+    mac
+}
+
+// The MAC of the PPA with a number, zeros where none has it.
+pub fn mac_of(img: &[u8], p: PpaNumber) -> [u8; 6]
+    requires { ⌜ (length (now img) ≡ 760) × Lent (now img) ⌝ }
+    ensures { λ r. ⌜ r ≡ macOf (tableOf (now (img .entry))) p ⌝ }
+{
+    let k = ppa_place(img, p);
+    if k < table_image::ppa_total(img) as usize {
+        return mac_at_place(img, k);
+    }
+    [0; 6]
+}
+
+// A stream that was granted over 0 listens, for its PPA and SAP. The SAP is asked first: it is another for most.
+pub fn listens_at(img: &[u8], p: PpaNumber, sap: u32, i: usize) -> bool
+    requires { ⌜ (i < 16) × (length (now img) ≡ 760) ⌝ }
+    ensures { λ r. ⌜ r ≡ listens p sap (stream (tableOf (now (img .entry))) i) ⌝ }
+{
+    if table_image::sap_at(img, i) as u32 != sap {
+        return false;
+    }
+    if table_image::granted_at(img, i) == 0 {
+        return false;
+    }
+    table_image::ppa_at(img, i).0 == p.0
+}
+
+// The stream that listens for a PPA and SAP; 16 where nobody does.
+pub fn listener(img: &[u8], p: PpaNumber, sap: u32) -> usize
+    requires { ⌜ (length (now img) ≡ 760) × Lent (now img) ⌝ }
+    ensures { λ r. ⌜ r ≡ listener (tableOf (now (img .entry))) p sap ⌝ }
+{
+    let mut i: usize = 0;
+    while i < 16 {
+        if listens_at(img, p, sap, i) {
+            return i;
+        }
+        i += 1;
+    }
+    16
+}
+
+pub fn is_listened_for(img: &[u8], p: PpaNumber, sap: u32) -> bool
+    requires { ⌜ (length (now img) ≡ 760) × Lent (now img) ⌝ }
+    ensures { λ r. ⌜ r ≡ isListenedFor (tableOf (now (img .entry))) p sap ⌝ }
+{
+    listener(img, p, sap) < 16
+}
+
+// Token 0 or one's own means this stream.
+fn means_itself(i: u8, k: Token) -> bool
+    ensures { λ r. ⌜ r ≡ either (eqb (k .0) 0) (eqb (k .0) (suc i)) ⌝ }
+{
+    if k.0 == 0 {
+        return true;
+    }
+    k.0 == octets::wide(i) + 1
+}
+
+// What a token names: this stream, another that is open, or none.
+pub fn carrier_of(img: &[u8], i: u8, k: Token) -> Carrier
+    requires { ⌜ (length (now img) ≡ 760) × Lent (now img) ⌝ }
+    ensures { λ r. ⌜ r ≡ carrierOf (tableOf (now (img .entry))) i k ⌝ }
+{
+    if means_itself(i, k) {
+        return Carrier::Itself;
+    }
+    let j = k.0 as usize - 1;
+    if table_image::is_open(img, j) {
+        return Carrier::Other(j as u8, table_image::load_stream(img, j));
+    }
+    Carrier::None
+}

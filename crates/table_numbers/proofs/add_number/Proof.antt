@@ -1,0 +1,22 @@
+use native.Mathlib.Omega.{arith}
+use mathlib.Core.List.{[], _∷_, _++_}
+use lib.ListN.{length-append}
+use borrow.Author.Needs.{needs}
+use denote.Ref.{now}
+use Rattle.paper.specs.Base.{waiting}
+use Rattle.table_image.specs.Layout.{tableOf}
+use Rattle.table_numbers.proofs.Laws.{calls-stored}
+use Rattle.table_numbers.proofs.add_number.Statement.{statement}
+use Rattle.table_numbers.proofs.add_number.Tie as tie
+
+returns : tie.Need-returns
+returns c =
+    let s = c .before .before .before .before .before .before .before in
+    let a = s .args in
+    let w = waiting (tableOf (now (a .img))) (a .i) in
+    let n = a .n .0 ∷ [] in
+    rw (c .before .before .put-slot .ensures, c .before .before .before .before .one-number-more .ensures)
+    (calls-stored (now (a .img)) (s .pre .2) (a .i) (s .pre .0) (a .s) (w ++ n) (omega (arith, length-append w n)))
+
+pub add-number-spec : {M : Type 1} → statement M
+add-number-spec = tie.close (tie.spec (λ c κs. search needs) (λ c κs. search needs) (λ c. search needs) returns)

@@ -1,0 +1,188 @@
+-- What the bytes of an image tell of its table: states, PPA numbers, open and closed streams.
+use Prim.Native.Nat.{ℕ, zero, suc, _+_, _*_, _≤_, _<_}
+use mathlib.Core.Path.{_≡_, refl, sym, ap, _∙_}
+use mathlib.Core.Bool.{Bool, true, false, not}
+use mathlib.Core.List.{List, [], _++_, append-nil}
+use lib.ListN.{length, getD, take, drop, replicate, length-map}
+use lib.Seq.{take-take}
+use lib.Dec.{eqb, ltb, leb, eqb·suc-zero}
+use native.Mathlib.Omega.{arith}
+use borrow.Author.Tests.{eqb-true, eq-eqb, ne-eqb, lt-ltb, le-leb}
+use Rattle.ledger.specs.Choice.{both, pick}
+use Rattle.ledger.specs.Tally.{oneIf, occ, allOf}
+use Rattle.ledger.proofs.Tallies.{both-of, to-both, chosen, all-at, empty, both-true}
+use Rattle.octets.specs.Numbers.{be32At}
+use Rattle.octets.specs.Runs.{part, allZero}
+use Rattle.octets.proofs.Laws.{be32At-be32, zero-replicate}
+use Rattle.paper.specs.Base.{numberOf, isIn, noStream, Slot, closed, Table, slot, ppaNumbers, noPpa, stateOf, everyState}
+use Rattle.paper.specs.Sound.{every, unbound, holdsNothing, openTests, soundSlot, isSingle, isAlone, remembersOpenings, soundTests, sound}
+use Rattle.paper.specs.Correlations.{occurrences}
+use Rattle.paper.specs.declared.State.{State}
+use Rattle.paper.specs.declared.State.the-variants.{Unattached, Unbound, Idle, OutconPending, InconPending, DataXfer, UserResetPending, ProvResetPending}
+use Rattle.paper.specs.declared.Stream.{Stream}
+use Rattle.paper.specs.declared.Ppa.{Ppa}
+use Rattle.table_image.specs.Layout.{ppaBase, slotBase, slotParts, ppaFrom, ppaAt, tableOf, streamBytes, waitingBytes, slotBytes, headerBytes, joined, imageOf, isState, tidy, soundImage}
+use Rattle.table_image.specs.Lent.{Lent}
+use Rattle.table_image.proofs.Joined.{listed-at, joined-at}
+use Rattle.table_image.proofs.Shapes.{slots-wide, header-length}
+use Rattle.table_image.proofs.TableBack.{be32At-part}
+use Rattle.table_image.proofs.Lending.{lent-tidy}
+use Rattle.table_lookup.proofs.Laws.{ppa-place}
+use Rattle.table_soundness.proofs.Laws.{both-assoc, both-swap, same-test, map-at, all-both, occ-joined, all-joined}
+use Rattle.table_soundness.specs.Groups.{isAttachedRight, isBoundRight, isCountRight, openNumbers, isSingleIn, areSingle, isStreamSound}
+
+-- ---- states
+
+-- the state that a byte tells has the byte as its number exactly if the paper has such a state
+pub state-told : (n : ℕ) → eqb (numberOf (stateOf n)) n ≡ isState n
+unfolding stateOf isState
+state-told n =
+    chosen P (eqb n 3) Unbound _ (known 3 Unbound refl) λ a. chosen P (eqb n 6) Idle _ (known 6 Idle refl) λ b.
+    chosen P (eqb n 8) OutconPending _ (known 8 OutconPending refl) λ c. chosen P (eqb n 9) InconPending _ (known 9 InconPending refl) λ d.
+    chosen P (eqb n 11) DataXfer _ (known 11 DataXfer refl) λ e. chosen P (eqb n 12) UserResetPending _ (known 12 UserResetPending refl) λ f.
+    chosen P (eqb n 13) ProvResetPending _ (known 13 ProvResetPending refl) λ g.
+    rw (a, b, c, d, e, f, g) (last n)
+  where
+    P : State → Type 0
+    P q = eqb (numberOf q) n ≡ ltb 0 (occ n everyState)
+
+    known : (k : ℕ) (q : State) → eqb (numberOf q) k ≡ ltb 0 (occ k everyState) → eqb n k ≡ true → P q
+    known k q r e = let z : n ≡ k = eqb-true n k e in rw z r
+
+    last : (n : ℕ) → eqb 0 n ≡ ltb 0 (oneIf (eqb n 0) + 0)
+    last zero = refl
+    last (suc n) = rw (ne-eqb 0 (suc n) (λ e. omega arith), eqb·suc-zero n)
+
+-- ---- the bytes of a slot
+
+pub slot-part : (img : List ℕ) (i : ℕ) → i < 16 → getD (slotParts img) i [] ≡ part img (slotBase i) 42
+slot-part img i h =
+    let at : ℕ → List ℕ = λ k. part img (slotBase k) 42 in
+    let z : 0 + i ≡ i = omega arith in
+    listed-at at 0 16 i [] h ∙ ap at z
+
+-- ---- PPA numbers
+
+pub ppas-many : (t : Table) → length (ppaNumbers t) ≡ length (t .ppas)
+ppas-many t = length-map (t .ppas) (λ (p : Ppa). p .number .0)
+
+pub number-at : (img : List ℕ) (k : ℕ) → k < length (tableOf img .ppas) → be32At img (ppaBase k) ≡ getD (ppaNumbers (tableOf img)) k 0
+unfolding ppaAt ppaFrom
+number-at img k h =
+    let c : List ℕ = drop (ppaBase k) img in
+    let number : Ppa → ℕ = λ p. p .number .0 in
+    sym (be32At-part img (ppaBase k))
+    ∙ ap (λ (r : List ℕ). be32At r 0) (sym (take-take 4 10 c (omega arith)))
+    ∙ be32At-part (take 10 c) 0
+    ∙ ap number (sym (ppa-place img k h))
+    ∙ sym (map-at number noPpa (tableOf img .ppas) k)
+
+-- ---- open streams
+
+-- the tests in their groups
+pub grouped : (ppas : List ℕ) (x : Slot) → every (openTests ppas x) ≡ both (isAttachedRight ppas (x .stream)) (both (isBoundRight (x .stream)) (isCountRight (x .stream) (length (x .waiting))))
+unfolding isAttachedRight isBoundRight isCountRight
+grouped ppas x = simp (both-assoc, both-true)
+
+-- a count of none, of any granted
+pub none-open : (n g : ℕ) → eqb n 0 ≡ both (not (ltb 0 n)) (leb n g)
+none-open zero g = sym (le-leb 0 g (omega arith))
+none-open (suc n) g = rw (eqb·suc-zero n, lt-ltb 0 (suc n) (omega arith))
+
+-- ---- closed streams
+
+in-zero : (q : State) → numberOf q ≡ 0 → q ≡ Unattached
+in-zero Unattached e = refl
+in-zero Unbound e = absurd (omega arith)
+in-zero Idle e = absurd (omega arith)
+in-zero OutconPending e = absurd (omega arith)
+in-zero InconPending e = absurd (omega arith)
+in-zero DataXfer e = absurd (omega arith)
+in-zero UserResetPending e = absurd (omega arith)
+in-zero ProvResetPending e = absurd (omega arith)
+
+nth : (l : List Bool) → every l ≡ true → (i : ℕ) → getD l i true ≡ true
+nth l h i = all-at (λ (b : Bool). b) true refl l h i
+
+abbrev empty-slot : Bool → Slot
+empty-slot b = record { isOpen = b; stream = noStream; waiting = [] }
+
+-- a stream that passes the test is one that holds nothing
+holds-nothing : (x : Slot) → holdsNothing x ≡ true → x ≡ empty-slot (x .isOpen)
+unfolding holdsNothing
+holds-nothing x h =
+    let s : Stream = x .stream in
+    let a = both-of (isIn 0 s) (both (eqb (s .ppa .0) 0) (both (every (unbound s)) (eqb (length (x .waiting)) 0))) h in
+    let b = both-of (eqb (s .ppa .0) 0) (both (every (unbound s)) (eqb (length (x .waiting)) 0)) (a .1) in
+    let c = both-of (every (unbound s)) (eqb (length (x .waiting)) 0) (b .1) in
+    let u = nth (unbound s) (c .0) in
+    λ d. record {
+      isOpen = x .isOpen;
+      stream = record {
+        state = in-zero (s .state) (eqb-true (numberOf (s .state)) 0 (a .0)) d;
+        mode = eqb-true (s .mode) 0 (u 0) d;
+        sap = eqb-true (s .sap) 0 (u 1) d;
+        ppa = record { 0 = eqb-true (s .ppa .0) 0 (b .0) d };
+        granted = eqb-true (s .granted) 0 (u 2) d;
+      };
+      waiting = empty (x .waiting) (eqb-true (length (x .waiting)) 0 (c .1)) d;
+    }
+
+-- its bytes up to the count of open numbers are zero, and no other's
+zeros : (x : Slot) → allZero (take 10 (slotBytes x)) ≡ holdsNothing x
+unfolding streamBytes waitingBytes holdsNothing
+zeros x = same-test (allZero (take 10 (slotBytes x))) (holdsNothing x) none (λ e. ap (λ (y : Slot). allZero (take 10 (slotBytes y))) (holds-nothing x e))
+  where
+    none : allZero (take 10 (slotBytes x)) ≡ true → holdsNothing x ≡ true
+    none e =
+        let s : Stream = x .stream in
+        let byte : (k : ℕ) → getD (take 10 (slotBytes x)) k 0 ≡ getD (replicate 10 0) k 0 = λ k. ap (λ (r : List ℕ). getD r k 0) (zero-replicate (take 10 (slotBytes x)) e) in
+        to-both _ _ (eq-eqb (numberOf (s .state)) 0 (byte 0))
+        (to-both _ _ (eq-eqb (s .ppa .0) 0 (sym (be32At-be32 (s .ppa .0) []) ∙ (λ d. byte 4 d * 16777216 + byte 5 d * 65536 + byte 6 d * 256 + byte 7 d)))
+        (to-both _ _ (to-both _ _ (eq-eqb (s .mode) 0 (byte 1)) (to-both _ _ (eq-eqb (s .sap) 0 (omega (arith, byte 2, byte 3))) (to-both _ _ (eq-eqb (s .granted) 0 (byte 8)) refl)))
+        (eq-eqb (length (x .waiting)) 0 (byte 9))))
+
+pub closed-bytes : (img : List ℕ) → Lent img → (i : ℕ) → i < 16 → allZero (part img (slotBase i) 10) ≡ holdsNothing (slot (tableOf img) i)
+unfolding imageOf
+closed-bytes img l i h =
+    let t : Table = tableOf img in
+    ap allZero
+    (sym (take-take 10 42 (drop (slotBase i) img) (omega arith))
+    ∙ ap (λ (r : List ℕ). take 10 (part r (slotBase i) 42)) (sym (l .same))
+    ∙ ap (λ (r : List ℕ). take 10 (part (headerBytes t ++ r) (slotBase i) 42)) (sym (append-nil (joined slotBytes (t .slots))))
+    ∙ ap (take 10) (joined-at slotBytes closed 42 (headerBytes t) 88 (t .slots) i (header-length t (l .shaped)) (slots-wide t (l .shaped)) (omega (arith, l .shaped .sixteen)) []))
+    ∙ zeros (slot t i)
+
+-- ---- the clauses, those of the streams in one
+
+-- an open number is single in the table exactly if it is among all that are open
+singles : (t : Table) → allOf (λ (x : Slot). allOf (isSingle t) (x .waiting)) (t .slots) ≡ areSingle (openNumbers t)
+unfolding isSingle occurrences isSingleIn
+singles t =
+    let numbers : Slot → List ℕ = λ x. x .waiting in
+    let p : (n : ℕ) → isSingle t n ≡ isSingleIn (openNumbers t) n = λ n. ap (λ (m : ℕ). both (ltb 0 n) (leb m 1)) (occ-joined numbers n (t .slots)) in
+    all-joined numbers (isSingle t) (t .slots) ∙ ap (λ (q : ℕ → Bool). allOf q (openNumbers t)) (λ d n. p n d)
+
+pub sound-groups : (t : Table) → length (t .ppas) ≤ 8
+    → sound t
+    ≡ both (allOf (λ (p : ℕ). leb (occ p (ppaNumbers t)) 1) (ppaNumbers t))
+    (both (allOf (isStreamSound t) (t .slots)) (both (areSingle (openNumbers t)) (remembersOpenings t)))
+unfolding sound isStreamSound
+sound-groups t h =
+    let own : Slot → Bool = soundSlot (ppaNumbers t) in
+    let single : Slot → Bool = λ x. allOf (isSingle t) (x .waiting) in
+    let alone : Slot → Bool = λ x. isAlone t (x .stream) in
+    rw (le-leb (length (t .ppas)) 8 h, both-true (remembersOpenings t), ← singles t, all-both own alone (t .slots), both-assoc (allOf own (t .slots)) (allOf alone (t .slots)), both-swap (allOf alone (t .slots)) (allOf single (t .slots)))
+
+-- ---- what a sound table and a sound image give
+
+pub shut : (t : Table) → sound t ≡ true → (i : ℕ) → slot t i .isOpen ≡ false → slot t i ≡ closed
+unfolding sound soundSlot holdsNothing
+shut t h i o =
+    let x : Slot = slot t i in
+    let e : soundSlot (ppaNumbers t) x ≡ true = all-at (soundSlot (ppaNumbers t)) closed refl (t .slots) (nth (soundTests t) h 2) i in
+    holds-nothing x (ap (λ (b : Bool). pick b (every (openTests (ppaNumbers t) x)) (holdsNothing x)) (sym o) ∙ e) ∙ ap empty-slot o
+
+pub sound-lent : (img : List ℕ) → soundImage img ≡ true → Lent img
+unfolding soundImage
+sound-lent img h = lent-tidy img (both-of (tidy img) (sound (tableOf img)) h .0)

@@ -1,0 +1,10 @@
+use Rattle.table_soundness.proofs.Slots.{state-told}
+use borrow.Author.Needs.{needs}
+use Rattle.table_soundness.proofs.is_state.Statement.{statement}
+use Rattle.table_soundness.proofs.is_state.Tie as tie
+
+returns : tie.Need-returns
+returns c = rw (c .number-of .ensures, c .before .state-of .ensures) (state-told (c .before .before .args .n))
+
+pub is-state-spec : {M : Type 1} → statement M
+is-state-spec = tie.close (tie.spec (λ c κs. search needs) (λ c κs. search needs) returns)

@@ -1,0 +1,70 @@
+-- `records::input_as` meets its contract, an arm for each kind: a whole message has the 99 bytes that its padding test asks for.
+use borrow.Author.Needs.{needs}
+use Rattle.wire_records.proofs.input_as.Statement.{statement}
+use Rattle.wire_records.proofs.input_as.Tie as tie
+
+message-in-requires : tie.Need-message-in-requires
+message-in-requires c κs = rw (c .enum-told4 .given .1) at (c .before .before .before .before .pre)
+
+returns : tie.Need-returns
+returns c = rw (c .before .enum-told .given .1, c .number32-at .ensures)
+
+returns-3 : tie.Need-returns-3
+returns-3 c = rw (c .enum-told3 .given .1, c .before .before .byte-at .ensures)
+
+returns-4 : tie.Need-returns-4
+returns-4 c = rw (c .before .enum-told4 .given .1) (c .message-in .ensures)
+
+returns-5 : tie.Need-returns-5
+returns-5 c = rw (c .before .before .enum-told5 .given .1, c .byte-at2 .ensures, c .before .number32-at2 .ensures)
+
+returns-6 : tie.Need-returns-6
+returns-6 c = rw (c .enum-told6 .given .1, c .before .before .byte-at .ensures)
+
+returns-7 : tie.Need-returns-7
+returns-7 c = rw (c .before .enum-told7 .given .1, c .number32-at3 .ensures, c .before .before .before .byte-at .ensures)
+
+returns-8 : tie.Need-returns-8
+returns-8 c = rw (c .before .before .enum-told8 .given .1, c .number32-at5 .ensures, c .before .number32-at4 .ensures, c .before .before .before .before .byte-at .ensures)
+
+returns-9 : tie.Need-returns-9
+returns-9 c = rw (c .before .enum-told9 .given .1, c .number32-at6 .ensures, c .before .before .before .byte-at .ensures)
+
+returns-10 : tie.Need-returns-10
+returns-10 c = rw (c .enum-told10 .given .1, c .before .before .byte-at .ensures)
+
+pub input-as-spec : {M : Type 1} → statement M
+input-as-spec =
+    tie.close
+    (tie.spec
+    (λ c κs. search needs)
+    (λ c. search needs)
+    (λ c κs. search needs)
+    (λ c. search needs)
+    (λ c. search needs)
+    (λ c. search needs)
+    message-in-requires
+    (λ c. search needs)
+    (λ c κs. search needs)
+    (λ c κs. search needs)
+    (λ c. search needs)
+    (λ c. search needs)
+    (λ c κs. search needs)
+    (λ c. search needs)
+    (λ c κs. search needs)
+    (λ c κs. search needs)
+    (λ c. search needs)
+    (λ c κs. search needs)
+    (λ c. search needs)
+    (λ c. search needs)
+    returns
+    (λ c. search needs)
+    returns-3
+    returns-4
+    returns-5
+    returns-6
+    returns-7
+    returns-8
+    returns-9
+    returns-10
+    (λ c. search needs))
