@@ -6,7 +6,7 @@ use Rattle.call_answering.proofs.judged_disconnect.Tie as tie
 
 returns : tie.Need-returns
 unfolding judgeServed answerTo
-returns c = λ x. (rw (c .alone .ensures, c .before .judged-disconnect .ensures, c .before .before .is-waiting .ensures, c .before .before .before .before .before .pre .3), rw (c .alone .ensures))
+returns c = λ x. (rw (c .alone .ensures, c .before .judge-disconnect .ensures, c .before .before .is-waiting .ensures, c .before .before .before .before .before .pre .3), rw (c .alone .ensures))
 
 pub judged-disconnect-spec : {M : Type 1} → statement M
 judged-disconnect-spec =

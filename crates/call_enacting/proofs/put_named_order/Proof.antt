@@ -35,7 +35,7 @@ returns-2 c =
     let a = c .before .before .before .before .before .before .before .before .args in
     let s = c .before .before .before .before .before .named-by in
     let keys = c .before .before .before .before .match .keys2 in
-    let w = c .before .before .put-named-order .ensures in
+    let w = c .before .before .put-order .ensures in
     let named = order (namedBy (a .i) (a .c) (a .o)) (a .o) in (
       w .1,
       λ own.

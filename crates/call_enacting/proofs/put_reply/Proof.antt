@@ -14,11 +14,11 @@ use borrow.Author.Needs.{needs}
 use Rattle.call_enacting.proofs.put_reply.Statement.{statement}
 use Rattle.call_enacting.proofs.put_reply.Tie as tie
 
-put-reply-requires : tie.Need-put-reply-requires
-put-reply-requires c κs = (rw (c .part-at .ensures) (part-most (now (c .before .before .before .before .before .before .before .args .m)) 5 14), search needs)
+put-up-requires : tie.Need-put-up-requires
+put-up-requires c κs = (rw (c .part-at .ensures) (part-most (now (c .before .before .before .before .before .before .before .args .m)) 5 14), search needs)
 
-put-reply-requires-2 : tie.Need-put-reply-requires-2
-put-reply-requires-2 c κs = (rw (c .part-at2 .ensures) (omega (arith, part-most (now (c .before .before .before .before .before .before .before .args .m)) 2 7)), search needs)
+put-up-requires-2 : tie.Need-put-up-requires-2
+put-up-requires-2 c κs = (rw (c .part-at2 .ensures) (omega (arith, part-most (now (c .before .before .before .before .before .before .before .args .m)) 2 7)), search needs)
 
 returns : tie.Need-returns
 unfolding behindReply
@@ -47,7 +47,7 @@ unfolding behindReply
 returns-3 c =
     let a = c .before .before .before .before .before .before .before .before .before .before .args in
     let mac = macAt (tableOf (now (a .img))) (a .i) in
-    let w = c .before .before .put-reply .ensures in
+    let w = c .before .before .put-up .ensures in
     let told = c .before .before .before .before .before .enum-told .given in
     let called = c .before .before .before .part-at in
     (w .0, same-up (a .i) (a .reply) (a .reply) (now (called .result)) mac (now (a .m)) (now (a .room)) _ refl (w .1) (called .ensures ∙ rw (told .1) (two-addresses (now (a .m)))))
@@ -57,7 +57,7 @@ unfolding behindReply
 returns-4 c =
     let a = c .before .before .before .before .before .before .before .before .before .before .args in
     let mac = macAt (tableOf (now (a .img))) (a .i) in
-    let w = c .before .before .put-reply2 .ensures in
+    let w = c .before .before .put-up2 .ensures in
     let told = c .before .before .before .before .before .enum-told2 .given in
     let responding = c .before .before .before .part-at2 in
     (w .0, same-up (a .i) (a .reply) (a .reply) (now (responding .result)) mac (now (a .m)) (now (a .room)) _ refl (w .1) (responding .ensures ∙ rw (told .1) refl))
@@ -66,7 +66,7 @@ returns-5 : tie.Need-returns-5
 returns-5 c =
     let a = c .before .before .before .before .before .before .before .before .before .args in
     let mac = macAt (tableOf (now (a .img))) (a .i) in
-    let w = c .before .before .put-reply3 .ensures in
+    let w = c .before .before .put-up3 .ensures in
     let keys = c .before .before .before .before .before .match .keys5 in
     (w .0, same-up (a .i) (a .reply) (a .reply) [] mac (now (a .m)) (now (a .room)) _ refl (w .1) (no-tail mac (now (a .m)) (a .reply) keys))
 
@@ -82,10 +82,10 @@ put-reply-spec =
     (λ c κs. search needs)
     (λ c. search needs)
     (λ c κs. search needs)
-    put-reply-requires
+    put-up-requires
     (λ c. search needs)
     (λ c κs. search needs)
-    put-reply-requires-2
+    put-up-requires-2
     (λ c. search needs)
     (λ c κs. search needs)
     (λ c. search needs)

@@ -38,7 +38,7 @@ returns-4 c =
     let r = n .before .before .before in
     let a = r .before .before .before .before .before .args in
     λ room. simp (← r .before .remembers .ensures, r .if1 .left, ← n .before .ppa-total .ensures, lt-leb _ _ (n .if2 .left), ← k .before .knows .ensures, k .if3 .left)
-    (leaves-served (now (a .img)) room (withPpa (tableOf (now (a .img))) (record { number = a .p; mac = now (a .mac) })) [] 0 _ room refl (c .before .before .add-ppa .ensures) refl)
+    (leaves-served (now (a .img)) room (withPpa (tableOf (now (a .img))) (record { number = a .p; mac = now (a .mac) })) [] 0 _ room refl (c .before .before .store-ppa .ensures) refl)
 
 pub add-ppa-spec : {M : Type 1} → statement M
 add-ppa-spec =
