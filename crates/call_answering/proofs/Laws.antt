@@ -44,7 +44,7 @@ module _ (t : Table) (i : ℕ) (m : List ℕ) (code : ℕ) where
   error-enacted f w r = refl
 
   pub wrong : (r : Rule) (e : Effect) → e ≡ errorEffect code r → doing i e ≡ comes stateRows t i m (sends code (Wrong r))
-  unfolding comes decideBy
+  unfolding comes decideBy effectBy
   wrong r e z = ap (doing i) z ∙ error-enacted (found stateRows (stream t i) code) nothing r
 
   -- a request, by the row that was found
@@ -57,10 +57,10 @@ module _ (t : Table) (i : ℕ) (m : List ℕ) (code : ℕ) where
         (sym h ∙ ef ∙ ap₂ (λ (s : Stream) (n : ℕ). found stateRows s n) es en)
 
     pub no-row : (e : Effect) → f ≡ Missing → e ≡ errorEffect code rule.NoRow → doing i e ≡ comes stateRows t i m (sends code (For q))
-    unfolding decideBy
+    unfolding decideBy effectBy
     no-row e h z = ap (doing i) z ∙ error-enacted Missing (requestAsks q .question) rule.NoRow ∙ by-found Missing h
 
-    pub by-row : (x : StateRow) (r : Judged) (e : Effect) → f ≡ At x → RightlyJudged t i q r → e ≡ effectBy x (record { 0 = i + 1 }) code s (r .verdict)
+    pub by-row : (x : StateRow) (r : Judged) (e : Effect) → f ≡ At x → RightlyJudged t i q r → e ≡ effectBy (At x) (record { 0 = i + 1 }) code s (r .verdict)
         → doing (r .carrier) e ≡ comes stateRows t i m (sends code (For q))
     unfolding enact decideBy
     by-row x r e h j z = rw (z, j x .0, j x .1, es, add-one) (by-found (At x) h)
@@ -73,7 +73,7 @@ no-place e w z h k = absurd (false≢true (sym h ∙ ap (λ (e : Effect). takes 
 unchanged-takes : (x : StateRow) (s : Stream) → takes (unchanged x s) ≡ false
 unchanged-takes x s = picked (λ (c : Change). takes c ≡ false) (eqb (x .to) (x .from)) Stays (onward x s) (λ e. refl) (λ e. refl)
 
-pub message-takes : (x : StateRow) (k : Token) (code : ℕ) (s : Stream) (v : Verdict) → takes (effectBy x k code s v .change) ≡ false
+pub message-takes : (x : StateRow) (k : Token) (code : ℕ) (s : Stream) (v : Verdict) → takes (effectBy (At x) k code s v .change) ≡ false
 unfolding effectBy effectOf
 message-takes x k code s (Fails r) = refl
 message-takes x k code s (Serves service.Inform) = unchanged-takes x s

@@ -108,7 +108,7 @@ module _ (rows : List StateRow) (t : Table) where
     -- a request with a row, by the verdict on it
     answered-by : (q : Request) (x : StateRow) (c : ℕ) (v : Verdict) → found rows (stream t i) (requestAsks q .cause) ≡ At x
         → verdictOn rows t i m (For q) ≡ v → Judged t i m q c v
-        → Answered rows t i m (For q) (done t i c m (effectBy x (tokenOf i) (codeIn m) (stream t i) v))
+        → Answered rows t i m (For q) (done t i c m (effectBy (At x) (tokenOf i) (codeIn m) (stream t i) v))
     unfolding effectBy enacted changed carried told ordersIn upsIn behindReply inOrder
     answered-by q x c (Fails w) h e fails = failing e
     answered-by q x c (Serves v) h e (serves f) = serving e h f
@@ -118,13 +118,13 @@ module _ (rows : List StateRow) (t : Table) where
         → verdictBy (sightBy t i f (requestAsks q .question)) (For q) f ≡ verdictOn rows t i m (For q)
         → Answered rows t i m (For q)
         (enact t i m (sightBy t i f (requestAsks q .question)) (decideBy (sightBy t i f (requestAsks q .question)) (sends (codeIn m) (For q)) f))
-    unfolding enact decideBy enacted changed carried told ordersIn upsIn behindReply inOrder
+    unfolding enact decideBy effectBy enacted changed carried told ordersIn upsIn behindReply inOrder
     by-found q s Missing h e = failing (sym e)
     by-found q s (At x) h e = answered-by q x _ _ h (sym e) (fair t i m x q s)
 
     -- what message m asks, decided and enacted
     pub answered : (a : Asked) → askedBy m ≡ a → Answered rows t i m a (comes rows t i m (sends (codeIn m) a))
-    unfolding comes enact decideBy enacted changed carried told ordersIn upsIn behindReply inOrder
+    unfolding comes enact decideBy effectBy enacted changed carried told ordersIn upsIn behindReply inOrder
     answered (Wrong w) e = failing refl
     answered (For q) e = by-found q (asks m e) _ refl refl
 

@@ -31,7 +31,7 @@ use Rattle.paper.specs.declared.Asked.the-variants.{For, Wrong}
 use Rattle.paper.specs.declared.Verdict.{Verdict}
 use Rattle.paper.specs.declared.Verdict.the-variants.{Serves, Fails}
 
--- 1. Another code than a served request's, or L under the size: `askedBy` (Messages). 2. No state row: `verdict`, below.
+-- 1. Another code than a served request's, or L under the size: `askedBy` (Messages). 2. No state row: `verdictBy`, below.
 
 -- 3. ATTACH: unknown PPA, BADPPA.
 unfoldable pub judgeAttach : PpaNumber → Bool → Verdict
@@ -117,7 +117,7 @@ judgeServed s request.Reset = Serves service.Reset
 judgeServed s request.ResetRes = Serves service.ResetRes
 
 -- The order of errors as a whole, on a message: the first rule that applies, or what serves it. (The last argument is the
--- stream's row, on which the clauses are told apart.)
+-- sight's row.)
 abbrev pub verdictBy : Sight → Asked → Found → Verdict
 verdictBy s (Wrong r) f = Fails r
 verdictBy s (For q) Missing = Fails rule.NoRow

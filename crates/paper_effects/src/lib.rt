@@ -3,6 +3,7 @@ ghost use mathlib.Core.Path.{_≡_};
 ghost use Rattle.paper.specs.Base.{isAmong, joinedStates};
 ghost use Rattle.paper.specs.Effects.{next, onward, unchanged, more, less, boundIn, acting, errorEffect, ok, noNumber, accepting, effectOf, eventEffect};
 ghost use Rattle.paper.specs.Decide.{effectBy};
+ghost use Rattle.paper.specs.declared.Found.the-variants as found;
 use paper::Change;
 use paper::Correlation;
 use paper::Effect;
@@ -226,7 +227,7 @@ pub fn event_effect(x: StateRow, s: Stream, event: Event) -> Effect
 
 // An ERROR_ACK to a message of this code, or what row x does that serves it.
 pub fn effect_by(x: StateRow, k: Token, code: u32, s: Stream, verdict: Verdict) -> Effect
-    ensures { λ e. ⌜ e ≡ effectBy x k code s verdict ⌝ }
+    ensures { λ e. ⌜ e ≡ effectBy (found.At x) k code s verdict ⌝ }
 {
     match verdict {
         Verdict::Fails(rule) => error_effect(code, rule),
