@@ -31,7 +31,7 @@ use Rattle.paper.specs.declared.Change.the-variants.{Stays}
 use Rattle.paper.specs.declared.Effect.{Effect}
 use Rattle.call_enacting.specs.Takes.{takes}
 use Rattle.call_answering.specs.Judging.{RightlyJudged}
-use Rattle.call_answering.specs.declared.Judged.{Judged}
+use Rattle.call_answering.specs.declared.Judgement.{Judgement}
 
 module _ (t : Table) (i : ℕ) (m : List ℕ) (code : ℕ) where
   -- an effect, where stream c carries
@@ -60,7 +60,7 @@ module _ (t : Table) (i : ℕ) (m : List ℕ) (code : ℕ) where
     unfolding decideBy effectBy
     no-row e h z = ap (doing i) z ∙ error-enacted Missing (requestAsks q .question) rule.NoRow ∙ by-found Missing h
 
-    pub by-row : (x : StateRow) (r : Judged) (e : Effect) → f ≡ At x → RightlyJudged t i q r → e ≡ effectBy (At x) (record { 0 = i + 1 }) code s (r .verdict)
+    pub by-row : (x : StateRow) (r : Judgement) (e : Effect) → f ≡ At x → RightlyJudged t i q r → e ≡ effectBy (At x) (record { 0 = i + 1 }) code s (r .verdict)
         → doing (r .carrier) e ≡ comes stateRows t i m (sends code (For q))
     unfolding enact decideBy
     by-row x r e h j z = rw (z, j x .0, j x .1, es, add-one) (by-found (At x) h)

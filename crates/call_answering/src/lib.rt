@@ -28,16 +28,16 @@ use paper::Verdict;
 // ---- steps 3 to 7 of the order of errors, of stream i, which stands as s
 
 // What a request comes to, and the stream that would carry its call.
-struct Judged {
+struct Judgement {
     verdict: Verdict,
     carrier: u8,
 }
 
 // A request that names no token: the stream itself would carry.
-fn alone(i: u8, verdict: Verdict) -> Judged
+fn alone(i: u8, verdict: Verdict) -> Judgement
     ensures { λ r. ⌜ r ≡ record { verdict = verdict; carrier = i } ⌝ }
 {
-    Judged {
+    Judgement {
         verdict: verdict,
         carrier: i,
     }
@@ -55,7 +55,7 @@ fn carrier_at(i: u8, carrier: Carrier) -> u8
 }
 
 // 6. CONNECT_RES: its number among the open ones, how many these are, and the stream that its token names.
-fn judged_accept(img: &[u8], i: u8, s: Stream, a: ConnectResponse) -> Judged
+fn judged_accept(img: &[u8], i: u8, s: Stream, a: ConnectResponse) -> Judgement
     requires { ⌜ (i < 16) × (length (now img) ≡ 760) × Lent (now img) × (s ≡ stream (tableOf (now img)) i) ⌝ }
     ensures { λ r. ⌜ RightlyJudged (tableOf (now (img .entry))) i (request.ConnectRes a) r ⌝ }
 {
@@ -67,14 +67,14 @@ fn judged_accept(img: &[u8], i: u8, s: Stream, a: ConnectResponse) -> Judged
     let carrier = table_lookup::carrier_of(img, i, k);
     let verdict = paper_rules::judge_accept(s, a, waits, count, carrier);
     let place = carrier_at(i, carrier);
-    Judged {
+    Judgement {
         verdict: verdict,
         carrier: place,
     }
 }
 
 // 7. DISCONNECT_REQ: its number among the open ones.
-fn judged_disconnect(img: &[u8], i: u8, s: Stream, d: DisconnectRequest) -> Judged
+fn judged_disconnect(img: &[u8], i: u8, s: Stream, d: DisconnectRequest) -> Judgement
     requires { ⌜ (i < 16) × (length (now img) ≡ 760) × Lent (now img) × (s ≡ stream (tableOf (now img)) i) ⌝ }
     ensures { λ r. ⌜ RightlyJudged (tableOf (now (img .entry))) i (request.Disconnect d) r ⌝ }
 {
@@ -83,7 +83,8 @@ fn judged_disconnect(img: &[u8], i: u8, s: Stream, d: DisconnectRequest) -> Judg
     alone(i, paper_rules::judge_disconnect(s, d, waits))
 }
 
-fn judged_request(img: &[u8], i: u8, s: Stream, q: Request) -> Judged
+// Steps 3 to 7, by the request.
+fn judged_request(img: &[u8], i: u8, s: Stream, q: Request) -> Judgement
     requires { ⌜ (i < 16) × (length (now img) ≡ 760) × Lent (now img) × (s ≡ stream (tableOf (now img)) i) ⌝ }
     ensures { λ r. ⌜ RightlyJudged (tableOf (now (img .entry))) i q r ⌝ }
 {
@@ -156,7 +157,7 @@ fn answer_request(img: &mut [u8], room: &mut [u8], i: u8, m: &[u8], code: u32, q
     }
 }
 
-// Step 1, then the others.
+// Step 1 of the order of errors, then the others.
 pub fn answer(img: &mut [u8], room: &mut [u8], i: u8, m: &[u8]) -> u32
     requires { ⌜ (i < 16) × (length (now img) ≡ 760) × Lent (now img) × (128 ≤ length (now room)) × (length (now m) ≤ 96) ⌝ }
     ensures { λ r. ⌜ left r (now (img .exit)) (now (room .exit)) ≡ leaving (now (img .entry)) (now (room .entry)) (comes stateRows (tableOf (now (img .entry))) i (now (m .entry)) (sends (codeIn (now (m .entry))) (askedBy (now (m .entry))))) ⌝ }

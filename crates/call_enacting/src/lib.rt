@@ -96,7 +96,12 @@ fn put_named_order(room: &mut [u8], i: u8, c: u8, m: &[u8], o: LineOrder) -> usi
 {
     let s = named_by(i, c, o);
     match o {
-        LineOrder::Connect(at) => wire_replies::put_connect(room, s, at, wire_messages::address_in(m, at)),
+        LineOrder::Connect(at) => wire_replies::put_connect(
+            room,
+            s,
+            at,
+            wire_messages::address_in(m, at),
+        ),
         _ => wire_replies::put_order(room, s, o),
     }
 }

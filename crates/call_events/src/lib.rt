@@ -60,7 +60,7 @@ fn is_due(img: &[u8], i: u8, s: Stream, event: Event) -> bool
     }
 }
 
-// None where the event is not due on stream i, which stands as s.
+// The stream's row for an event; none where it is not due. Stream i stands as s.
 fn row_of(img: &[u8], i: u8, s: Stream, event: Event) -> Found
     requires { ⌜ (i < 16) × (length (now img) ≡ 760) × Lent (now img) × (s ≡ stream (tableOf (now img)) i) ⌝ }
     ensures { λ r. ⌜ r ≡ dueRow (tableOf (now (img .entry))) i event ⌝ }
@@ -85,7 +85,9 @@ pub fn come(img: &mut [u8], room: &mut [u8], i: u8, r: &[u8], event: Event) -> u
     let found = row_of(img, i, s, event);
     match found {
         Found::Missing => call_outcomes::refused(UNEXPECTED),
-        Found::At(x) => { call_enacting::enact(img, room, i, i, r, paper_effects::event_effect(x, s, event)) }
+        Found::At(x) => {
+            call_enacting::enact(img, room, i, i, r, paper_effects::event_effect(x, s, event))
+        }
     }
 }
 
@@ -118,7 +120,7 @@ fn is_called(img: &[u8], p: PpaNumber, r: &[u8]) -> bool
     octets::same_bytes(octets::part_at(r, 5, 6), &mac)
 }
 
-// The PPA is known and has the called MAC, and somebody listens for it and the SAP.
+// 7 unless the PPA is known and has the called MAC, and somebody listens for it and the SAP; then 8, or the indication.
 pub fn call_arrives(img: &mut [u8], room: &mut [u8], p: PpaNumber, sap: u8, r: &[u8]) -> u32
     requires { ⌜ (length (now img) ≡ 760) × Lent (now img) × (128 ≤ length (now room)) × ((i : ℕ) → stream (tableOf (now img)) i .granted ≤ 8) ⌝ }
     ensures { λ n. ⌜ left n (now (img .exit)) (now (room .exit)) ≡ leaving (now (img .entry)) (now (room .entry)) (arrives stateRows (tableOf (now (img .entry))) p sap (now (r .entry))) ⌝ }

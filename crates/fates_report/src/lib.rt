@@ -47,7 +47,14 @@ fn put_numbers(out: &mut [u8], at: usize, register: &[u64], c: usize, k: usize) 
 }
 
 // 'call stream opening call number fate', of the indication in cell c.
-fn put_indication(out: &mut [u8], at: usize, register: &[u64], i: usize, c: usize, word: &[u8]) -> usize
+fn put_indication(
+    out: &mut [u8],
+    at: usize,
+    register: &[u64],
+    i: usize,
+    c: usize,
+    word: &[u8],
+) -> usize
     requires { ⌜ (length (now register) ≡ 408) × (i < 16) × (c + 2 ≤ 408) × (length (now word) ≤ 10) × (at + 100 ≤ length (now out)) ⌝ }
     ensures { λ r. ⌜ (r ≡ at + length (indicationLine i c (now (word .entry)) (now (register .entry)))) × (now (out .exit) ≡ paste (now (out .entry)) at (indicationLine i c (now (word .entry)) (now (register .entry)))) ⌝ }
     ensures { λ r. ⌜ r ≤ at + 100 ⌝ }

@@ -54,7 +54,7 @@ allows s h = of-either _ _ h
 pub record Fits (s : Stream) (q : State) : Type 0 where
   pub attached : eqb (numberOf q) 0 ≡ false → isIn 0 s ≡ false
   pub bound : has (numberOf q) boundStates ≡ true → isAmong boundStates s ≡ true
-  pub joined : has (numberOf q) connectionStates ≡ true → s .mode ≡ 1
+  pub connected : has (numberOf q) connectionStates ≡ true → s .mode ≡ 1
 
 module _ (ps : List ℕ) where
   -- a closed one is in state 0
@@ -87,7 +87,7 @@ module _ (ps : List ℕ) where
     attached = λ e. absurd (false≢true (sym e));
     unbound = λ e. (refl, refl, refl);
     bound = λ e. absurd (false≢true e);
-    joined = λ e. absurd (false≢true e);
+    connected = λ e. absurd (false≢true e);
     nine = refl;
     few = omega arith;
   }
@@ -104,7 +104,7 @@ module _ (ps : List ℕ) where
     attached = λ e. absurd (false≢true (sym e));
     unbound = λ e. (refl, refl, refl);
     bound = λ e. absurd (false≢true e);
-    joined = λ e. absurd (false≢true e);
+    connected = λ e. absurd (false≢true e);
     nine = sym z;
     few = ltb-false 0 (length w) z;
   }
@@ -118,7 +118,7 @@ module _ (ps : List ℕ) where
     attached = λ e. a;
     unbound = λ e. (refl, refl, refl);
     bound = λ e. absurd (false≢true (sym b ∙ e));
-    joined = λ e. absurd (false≢true (sym b ∙ connection-bound (numberOf q) e));
+    connected = λ e. absurd (false≢true (sym b ∙ connection-bound (numberOf q) e));
     nine = not-nine (λ (m : ℕ). has m boundStates) (numberOf q) refl b ∙ sym z;
     few = ltb-false 0 (length w) z;
   }
@@ -132,7 +132,7 @@ module _ (ps : List ℕ) where
     attached = λ e. a;
     unbound = λ e. absurd (false≢true (sym e ∙ b));
     bound = λ e. l;
-    joined = j;
+    connected = j;
     nine = n;
     few = f;
   }
@@ -145,7 +145,7 @@ module _ (ps : List ℕ) where
       picked P (eqb (numberOf q) 0) noStream _
       (λ e. ok-none w (sym n ∙ ap (λ (m : ℕ). eqb m 9) (eqb-true (numberOf q) 0 e)))
       (λ e. picked P (has (numberOf q) boundStates) _ _
-      (λ b. ok-bound (inState q (x .stream)) w b (o .attached (f .attached e)) (o .bound (f .bound b)) (f .joined) n l)
+      (λ b. ok-bound (inState q (x .stream)) w b (o .attached (f .attached e)) (o .bound (f .bound b)) (f .connected) n l)
       (λ b. ok-attached q (x .stream .ppa) w e b (o .attached (f .attached e)) (sym n ∙ not-nine (λ (m : ℕ). has m boundStates) (numberOf q) refl b)))
     where
       P : Stream → Type 0

@@ -169,7 +169,7 @@ ppa-sound t k p l n u m = record {
       attached = λ h. still (x .stream .ppa .0) (ltb-true 0 (occ (x .stream .ppa .0) (ppaNumbers t)) (o .attached h));
       unbound = o .unbound;
       bound = o .bound;
-      joined = o .joined;
+      connected = o .connected;
       nine = o .nine;
       few = o .few;
     }

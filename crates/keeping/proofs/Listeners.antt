@@ -52,7 +52,7 @@ module _ (t : Table) (k : Sound t) (i : ℕ) (u : slot t i .isOpen ≡ true) (x 
       let d : (isAmong boundStates (stream t i) ≡ true) × (eqb (toState x) 9 ≡ true) = both-of _ _ h in
       let g : length (waiting t i) < stream t i .granted = ltb-true _ _ l in
       let one : stream t i .mode ≡ 1 = allows (stream t i) (k .each i .bound (d .0)) .2 (omega arith) in
-      let j : Fits (stream t i) (next x) = record { attached = λ _. bound-attached (number (stream t i)) (d .0); bound = λ _. d .0; joined = λ _. one } in
+      let j : Fits (stream t i) (next x) = record { attached = λ _. bound-attached (number (stream t i)) (d .0); bound = λ _. d .0; connected = λ _. one } in
       record {
         kept = more-sound t k i (n .0) (onePast (n .0)) (next x) (omega arith) v w u j (d .1) g;
         seen = shows-lines t i q c m (acting (more x (stream t i) n) o f a) _ _ y
@@ -86,10 +86,10 @@ module _ (t : Table) (k : Sound t) (i : ℕ) (u : slot t i .isOpen ≡ true) (x 
     listening = eqb-true _ _ (in-nine (ppaNumbers t) (slot t i) (n .0) (k .each i) h)
 
     in-mode-one : stream t i .mode ≡ 1
-    in-mode-one = k .each i .joined (ap (λ (m : ℕ). has m connectionStates) listening)
+    in-mode-one = k .each i .connected (ap (λ (m : ℕ). has m connectionStates) listening)
 
     fits-all : (q : State) → Fits (stream t i) q
-    fits-all q = record { attached = λ _. ap (λ (m : ℕ). eqb m 0) listening; bound = λ _. ap (λ (m : ℕ). has m boundStates) listening; joined = λ _. in-mode-one }
+    fits-all q = record { attached = λ _. ap (λ (m : ℕ). eqb m 0) listening; bound = λ _. ap (λ (m : ℕ). has m boundStates) listening; connected = λ _. in-mode-one }
 
     less-sound : Sound (changed t i (less x (stream t i) n))
     unfolding changed
@@ -123,7 +123,7 @@ module _ (t : Table) (k : Sound t) (i : ℕ) (u : slot t i .isOpen ≡ true) (x 
             let f : Fits (stream v c) DataXfer = record {
               attached = λ _. ap (λ (s : Slot). isIn 0 (s .stream)) g ∙ bound-attached (number (s .stream)) b;
               bound = λ _. ap (λ (s : Slot). isAmong boundStates (s .stream)) g ∙ b;
-              joined = λ _. ap (λ (s : Slot). s .stream .mode) g ∙ one;
+              connected = λ _. ap (λ (s : Slot). s .stream .mode) g ∙ one;
             } in
             record {
               kept = settle-sound v less-sound c DataXfer (ap (λ (s : Slot). s .isOpen) g ∙ p) (ap (λ (s : Slot). isIn 9 (s .stream)) g ∙ j) refl f;

@@ -42,7 +42,7 @@ holds-fits s q h =
     let n : ℕ = numberOf q in
     let a : (asks (not (eqb n 0)) (not (isIn 0 s)) ≡ true) × (both (asks (has n boundStates) (has (number s) boundStates)) (asks (has n connectionStates) (eqb (s .mode) 1)) ≡ true) = both-of _ _ h in
     let b : (asks (has n boundStates) (has (number s) boundStates) ≡ true) × (asks (has n connectionStates) (eqb (s .mode) 1) ≡ true) = both-of _ _ (a .1) in
-    record { attached = λ e. not-true _ (of-asks _ _ (a .0) (ap not e)); bound = λ e. of-asks _ _ (b .0) e; joined = λ e. eqb-true _ _ (of-asks _ _ (b .1) e) }
+    record { attached = λ e. not-true _ (of-asks _ _ (a .0) (ap not e)); bound = λ e. of-asks _ _ (b .0) e; connected = λ e. eqb-true _ _ (of-asks _ _ (b .1) e) }
 
 pub record Moves (s : Stream) (q : State) : Type 0 where
   pub quiet : isIn 9 s ≡ false

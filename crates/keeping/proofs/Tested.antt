@@ -36,7 +36,7 @@ unfolding soundSlot holdsNothing
 slot-test ps x o = picked (λ (b : Bool). b ≡ true) (x .isOpen) (every (openTests ps x)) (holdsNothing x)
     (λ e. to-both _ _ (picked (λ (b : Bool). b ≡ true) (isIn 0 (x .stream)) _ _ (λ z. eq-eqb _ _ (o .loose z)) (o .attached))
     (to-both _ _ (picked (λ (b : Bool). b ≡ true) (isAmong boundStates (x .stream)) _ _ (o .bound) (λ z. bare (o .unbound z)))
-    (to-both _ _ (to-asks (isAmong connectionStates (x .stream)) _ (λ z. eq-eqb _ _ (o .joined z)))
+    (to-both _ _ (to-asks (isAmong connectionStates (x .stream)) _ (λ z. eq-eqb _ _ (o .connected z)))
     (to-both _ _ (to-same _ _ (o .nine))
     (to-both _ _ (le-leb _ _ (o .few)) refl)))))
     (λ e. ap holdsNothing (o .shut e))
@@ -105,7 +105,7 @@ slot-tested ps x h = go (x .isOpen) refl h
           attached = a .1;
           unbound = λ z. zeros s (b .1 z);
           bound = b .0;
-          joined = λ z. eqb-true _ _ (of-asks (isAmong connectionStates s) (eqb (s .mode) 1) (nth (openTests ps x) h 2) z);
+          connected = λ z. eqb-true _ _ (of-asks (isAmong connectionStates s) (eqb (s .mode) 1) (nth (openTests ps x) h 2) z);
           nine = of-same _ _ (nth (openTests ps x) h 3);
           few = leb-true _ _ (nth (openTests ps x) h 4);
         }

@@ -30,19 +30,19 @@ holdsFor from mode to =
 abbrev pub mayLead : ℕ → ℕ → ℕ → Bool
 mayLead from mode to = both (not (eqb from 9)) (both (not (eqb to 9)) (holdsFor from mode to))
 
--- An attach leads to a state that holds a PPA alone;
+-- An attach leads to a state that holds a PPA alone.
 abbrev pub mayAttach : ℕ → ℕ → Bool
 mayAttach from to = both (not (eqb from 9)) (both (not (eqb to 0)) (not (has to boundStates)))
 
--- a bind from one that holds a PPA to one that holds a binding, of whichever mode.
+-- A bind leads from a state that holds a PPA to one that holds a binding of either mode.
 abbrev pub mayBind : ℕ → ℕ → Bool
 mayBind from to = both (both (not (eqb from 0)) (not (eqb from 9))) (both (has to boundStates) (not (has to connectionStates)))
 
--- A stream with a binding takes an open indication, and is then in 9;
+-- A stream with a binding takes an open indication, and is then in 9.
 abbrev pub mayTake : ℕ → ℕ → Bool
 mayTake from to = both (has from boundStates) (eqb to 9)
 
--- in 9 it loses one, and is then in 9, or in another state with a binding where it was the last.
+-- A stream in 9 loses one: it stays in 9, or goes to another state with a binding where it was the last.
 abbrev pub mayLose : ℕ → ℕ → Bool
 mayLose to last = both (eqb to 9) (both (not (eqb last 9)) (has last boundStates))
 

@@ -31,7 +31,7 @@ pub record Ok (ps : List ℕ) (x : Slot) : Type 0 where
   pub unbound : isAmong boundStates (x .stream) ≡ false → (x .stream .mode ≡ 0) × (x .stream .sap ≡ 0) × (x .stream .granted ≡ 0)
   pub bound : isAmong boundStates (x .stream) ≡ true → asBindAllows (x .stream) ≡ true
   -- in mode 1 in the states of a connection
-  pub joined : isAmong connectionStates (x .stream) ≡ true → x .stream .mode ≡ 1
+  pub connected : isAmong connectionStates (x .stream) ≡ true → x .stream .mode ≡ 1
   -- only 9 has open numbers, at least one and at most the granted count
   pub nine : isIn 9 (x .stream) ≡ ltb 0 (length (x .waiting))
   pub few : length (x .waiting) ≤ x .stream .granted

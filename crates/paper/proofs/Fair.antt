@@ -16,7 +16,7 @@ use Rattle.paper.specs.Saps.{isSap, isType, grantOf, asBindAllows, isLis
 use Rattle.paper.specs.Messages.{codeIn, primitiveOf, otherCode, sized, readAs, askedBy}
 use Rattle.paper.specs.StateRows.{infoReq, bindReq, unbindReq, attachReq, detachReq, connectReq, connectRes, tokenReq, disconnectReq, resetReq, resetRes}
 use Rattle.paper.specs.Sight.{requestAsks, carrierOf, answerTo, sightBy, carrierAt}
-use Rattle.paper.specs.ErrorOrder.{judgeAttach, judgeListening, judgeBind, judgeConnect, judgeOther, judgeItself, judgeCarrier, judgeAccept, judgeDenial, judgeDisconnect, judgeServed}
+use Rattle.paper.specs.ErrorOrder.{judgeAttach, judgeListening, judgeBind, judgeConnect, judgeOther, judgeItself, judgeCarrier, judgeAccept, judgeDenial, judgeDisconnect, judgeRequest}
 use Rattle.paper.specs.Effects.{boundIn}
 use Rattle.paper.specs.declared.State.{State}
 use Rattle.paper.specs.declared.PpaNumber.{PpaNumber}
@@ -228,8 +228,8 @@ module _ (t : Table) (i : ℕ) (m : List ℕ) where
 
   -- every verdict on a request that message m asks for, by any row
   pub fair : (x : StateRow) (q : Request) → Asks m q
-      → Judged t i m q (carrierAt i (answerTo t i (At x) (requestAsks q .question) .carrier)) (judgeServed (sightBy t i (At x) (requestAsks q .question)) q)
-  unfolding answerTo judgeServed judgeAttach judgeBind judgeListening judgeConnect judgeAccept judgeDisconnect judgeDenial
+      → Judged t i m q (carrierAt i (answerTo t i (At x) (requestAsks q .question) .carrier)) (judgeRequest (sightBy t i (At x) (requestAsks q .question)) q)
+  unfolding answerTo judgeRequest judgeAttach judgeBind judgeListening judgeConnect judgeAccept judgeDisconnect judgeDenial
   fair x request.Info s = serves informs
   fair x request.Token s = serves tellsToken
   fair x (request.Attach p) s = _ ⟹ fails ∣ (λ k. serves (attaches (not-false _ k)))

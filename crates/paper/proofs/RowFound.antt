@@ -51,6 +51,6 @@ module _ (rows : List StateRow) (s : Stream) (cause : ℕ) {x : StateRow} (h : f
   pub has-all : (p : StateRow → Bool) → allOf p rows ≡ true → p x ≡ true
   has-all = row .listed
 
-  -- and so does what holds of every row for what comes
+  -- and what holds of every row for what comes
   pub has-all-for : (p : StateRow → Bool) → allOf (λ (y : StateRow). asks (eqb (y .cause) cause) (p y)) rows ≡ true → p x ≡ true
   has-all-for p a = of-asks (eqb (x .cause) cause) (p x) (has-all (λ (y : StateRow). asks (eqb (y .cause) cause) (p y)) a) (eq-eqb _ _ row-cause)

@@ -1,4 +1,5 @@
--- Of the eight states each list holds those from a number on: a test of the number is a test of the list.
+-- Of the eight states the bound, connection and joined ones are those from a number on, and the calling ones are 8 and the joined:
+-- so a list is tested by numbers.
 use Prim.Native.Nat.{ℕ}
 use mathlib.Core.Path.{_≡_, refl}
 use mathlib.Core.Bool.{Bool, true, false}

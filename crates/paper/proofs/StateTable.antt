@@ -13,10 +13,10 @@ use Rattle.paper.specs.declared.StateRow.{StateRow}
 pub each-once : allOf (λ (x : StateRow). eqb (sumOf (λ (y : StateRow). oneIf (isRow (x .from) (x .mode) (x .cause) y)) stateRows) 1) stateRows ≡ true
 each-once = refl
 
--- Each row is for a state and a mode in which a stream can stand,
+-- Each row is for a state and a mode in which a stream can stand.
 pub each-from-a-seat : allOf (λ (x : StateRow). eqb (sumOf (λ (y : Seat). oneIf (both (eqb (y .state) (x .from)) (eqb (y .mode) (x .mode)))) seats) 1) stateRows ≡ true
 each-from-a-seat = refl
 
--- and leads to states that the paper has.
+-- Each row leads to states that the paper has.
 pub each-to-a-state : allOf (λ (x : StateRow). both (has (x .to) everyState) (has (x .last) everyState)) stateRows ≡ true
 each-to-a-state = refl

@@ -56,13 +56,12 @@ done t i c m e = served (enacted t i c m e) (told i c (slot t i) (macAt t i) m e
 abbrev pub erring : Table → ℕ → ℕ → Rule → Outcome
 erring t i code w = served t (up i (reply.ErrorAck code (errorOf w)) [] ∷ [])
 
-
 -- A message that asks this is answered with the error of the first rule that applies, or is served by its row.
-pub data Answered (rows : List StateRow) (t : Table) (i : ℕ) (m : List ℕ) : Asked → Outcome → Type 0 where
-  failing : {a : Asked} {w : Rule} → verdictOn rows t i m a ≡ Fails w → Answered rows t i m a (erring t i (codeIn m) w)
+pub data Replied (rows : List StateRow) (t : Table) (i : ℕ) (m : List ℕ) : Asked → Outcome → Type 0 where
+  failing : {a : Asked} {w : Rule} → verdictOn rows t i m a ≡ Fails w → Replied rows t i m a (erring t i (codeIn m) w)
   serving : {q : Request} {x : StateRow} {c : ℕ} {v : Service} → verdictOn rows t i m (For q) ≡ Serves v
       → found rows (stream t i) (requestAsks q .cause) ≡ At x → Fair t i m q c v
-      → Answered rows t i m (For q) (done t i c m (effectOf x (tokenOf i) (stream t i) v))
+      → Replied rows t i m (For q) (done t i c m (effectOf x (tokenOf i) (stream t i) v))
 
 -- That record in brings that event to stream i, past the tests that stand before the event.
 pub data Brings (t : Table) : Input → ℕ → Event → Type 0 where
@@ -96,7 +95,7 @@ pub data Way (rows : List StateRow) (t : Table) (r : List ℕ) : Input → Outco
   adding : {p : PpaNumber} → MayAdd t p → Way rows t r (input.AddPpa p) (served (withPpa t (record { number = p; mac = macIn r })) [])
   opening : lowestFree t < 16 → Way rows t r input.Open (servedOpening (withSlot (remembering t) (lowestFree t) justOpened) (lowestFree t))
   closing : {i : ℕ} → slot t i .isOpen ≡ true → Way rows t r (input.Close i) (served (withSlot t i closed) (goodbyes i (slot t i)))
-  answering : {i l : ℕ} {a : Asked} {o : Outcome} → Sent t i l → askedBy (messageIn r l) ≡ a → Answered rows t i (messageIn r l) a o
+  answering : {i l : ℕ} {a : Asked} {o : Outcome} → Sent t i l → askedBy (messageIn r l) ≡ a → Replied rows t i (messageIn r l) a o
       → Way rows t r (input.Message i l) o
   bringing : {q : Input} {i : ℕ} {e : Event} {x : StateRow} → Brings t q i e → found rows (stream t i) (letterOf e) ≡ At x
       → isDue (slot t i) e ≡ true → Way rows t r q (done t i i r (eventEffect x (stream t i) e))
@@ -108,7 +107,7 @@ module _ (rows : List StateRow) (t : Table) where
     -- a request with a row, by the verdict on it
     answered-by : (q : Request) (x : StateRow) (c : ℕ) (v : Verdict) → found rows (stream t i) (requestAsks q .cause) ≡ At x
         → verdictOn rows t i m (For q) ≡ v → Judged t i m q c v
-        → Answered rows t i m (For q) (done t i c m (effectBy (At x) (tokenOf i) (codeIn m) (stream t i) v))
+        → Replied rows t i m (For q) (done t i c m (effectBy (At x) (tokenOf i) (codeIn m) (stream t i) v))
     unfolding effectBy enacted changed carried told ordersIn upsIn behindReply inOrder
     answered-by q x c (Fails w) h e fails = failing e
     answered-by q x c (Serves v) h e (serves f) = serving e h f
@@ -116,14 +115,14 @@ module _ (rows : List StateRow) (t : Table) where
     -- a request, by the row found
     by-found : (q : Request) → Asks m q → (f : Found) → found rows (stream t i) (requestAsks q .cause) ≡ f
         → verdictBy (sightBy t i f (requestAsks q .question)) (For q) f ≡ verdictOn rows t i m (For q)
-        → Answered rows t i m (For q)
+        → Replied rows t i m (For q)
         (enact t i m (sightBy t i f (requestAsks q .question)) (decideBy (sightBy t i f (requestAsks q .question)) (sends (codeIn m) (For q)) f))
     unfolding enact decideBy effectBy enacted changed carried told ordersIn upsIn behindReply inOrder
     by-found q s Missing h e = failing (sym e)
     by-found q s (At x) h e = answered-by q x _ _ h (sym e) (fair t i m x q s)
 
     -- what message m asks, decided and enacted
-    pub answered : (a : Asked) → askedBy m ≡ a → Answered rows t i m a (comes rows t i m (sends (codeIn m) a))
+    pub answered : (a : Asked) → askedBy m ≡ a → Replied rows t i m a (comes rows t i m (sends (codeIn m) a))
     unfolding comes enact decideBy effectBy enacted changed carried told ordersIn upsIn behindReply inOrder
     answered (Wrong w) e = failing refl
     answered (For q) e = by-found q (asks m e) _ refl refl
@@ -183,12 +182,12 @@ module _ (rows : List StateRow) (t : Table) where
     -- ---- the whole call
 
     module _ (room : ℕ) where
-      -- an unsound table is refused with 16;
+      -- An unsound table is refused with 16.
       pub unsound : sound t ≡ false → stepBy rows t r room ≡ refused t notSound
       unfolding stepBy _⇒_∣_
       unsound e = rw e
 
-      -- on a sound one refusals 10 and 1 come before the record is served.
+      -- On a sound table refusals 10 and 1 come before the record is served.
       pub step-by : (P : Outcome → Type 0) → sound t ≡ true → ((n : ℕ) → 0 < n → n < 16 → P (refused t n))
           → (isReadable (inputOf r) ≡ true → 128 ≤ room → P (serveBy rows t r (inputOf r))) → P (stepBy rows t r room)
       unfolding stepBy _⇒_∣_
@@ -224,5 +223,5 @@ module _ (rows : List StateRow) (t : Table) where
             ∙ skip (ltb l 4) _ _ (le-ltb _ _ (s .coded))
             ∙ ap (λ (w : Asked). comes rows t i (messageIn r l) (sends (codeIn (messageIn r l)) w)) asked
 
-        pub answers : Answered rows t i (messageIn r l) a (stepBy rows t r room)
-        answers = subst (Answered rows t i (messageIn r l) a) (sym message-comes) (answered i (messageIn r l) a asked)
+        pub answers : Replied rows t i (messageIn r l) a (stepBy rows t r room)
+        answers = subst (Replied rows t i (messageIn r l) a) (sym message-comes) (answered i (messageIn r l) a asked)

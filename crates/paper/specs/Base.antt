@@ -56,7 +56,7 @@ everyState = 0 ∷ 3 ∷ 6 ∷ 8 ∷ 9 ∷ 11 ∷ 12 ∷ 13 ∷ []
 abbrev pub boundStates : List ℕ
 boundStates = 6 ∷ 8 ∷ 9 ∷ 11 ∷ 12 ∷ 13 ∷ []
 
--- a binding that INFO_ACK tells (a list of its own: a bind that waits would be held and not yet told)
+-- a binding that INFO_ACK tells: today the same states
 abbrev pub toldStates : List ℕ
 toldStates = boundStates
 
@@ -76,7 +76,7 @@ joinedStates = 11 ∷ 12 ∷ 13 ∷ []
 abbrev pub noStream : Stream
 noStream = record { state = Unattached; mode = 0; sap = 0; ppa = record { 0 = 0 }; granted = 0 }
 
--- one that is attached alone
+-- one that is attached, and holds nothing else
 abbrev pub attachedIn : State → PpaNumber → Stream
 attachedIn q p = record { state = q; mode = 0; sap = 0; ppa = p; granted = 0 }
 
@@ -84,7 +84,8 @@ attachedIn q p = record { state = q; mode = 0; sap = 0; ppa = p; granted = 0 }
 abbrev pub inState : State → Stream → Stream
 inState q s = record { state = q; mode = s .mode; sap = s .sap; ppa = s .ppa; granted = s .granted }
 
--- A stream that goes to a state holds what that state holds: nothing in 0, its PPA alone where no binding is held.
+-- A stream that goes to a state holds what that state holds: nothing in 0, its PPA alone where no binding is held,
+-- else all that it held.
 abbrev pub settled : State → Stream → Stream
 settled q s = pick (eqb (numberOf q) 0) noStream (pick (has (numberOf q) boundStates) (inState q s) (attachedIn q (s .ppa)))
 

@@ -1,5 +1,5 @@
--- 'State rows', what each does: a served call does one thing to one stream, as a value. The table after it, and the records
--- that it writes.
+-- 'State rows', what each does, as a value: an effect. First the table after an effect and its records, then the effect of
+-- each row.
 use Prim.Native.Nat.{ℕ}
 use mathlib.Core.Bool.{Bool, true, false, not}
 use mathlib.Core.List.{List, [], _∷_, _++_}
@@ -56,7 +56,8 @@ unfoldable pub carried : Table → ℕ → Bool → Table
 carried t c false = t
 carried t c true = withStream t c (settled DataXfer (stream t c))
 
--- An effect holds no bytes: what the table were to keep of a message would be taken from m. (The base keeps nothing.)
+-- An effect of message m, done. (An effect holds no bytes: what a table is to keep of a message comes from m. The base keeps
+-- nothing.)
 unfoldable pub enacted : Table → ℕ → ℕ → List ℕ → Effect → Table
 enacted t i c m e = carried (changed t i (e .change)) c (e .carries)
 
@@ -70,8 +71,8 @@ namedBy i c (lineOrder.Disconnect n reason) = i
 namedBy i c lineOrder.Reset = i
 namedBy i c lineOrder.ResetAnswer = i
 
--- What stands behind an order: bytes of the message m, or of what the stream's own slot keeps. (The base has c alone with
--- any: the address is handed on as that part of the message.)
+-- What stands behind the fields of an order: of the message, or of what the stream's own slot keeps. (The base has c alone
+-- with any: the address, handed on as that part of the message.)
 abbrev pub behindOrder : Slot → List ℕ → LineOrder → List ℕ
 behindOrder own m (lineOrder.Connect at) = part m at 7
 behindOrder own m (lineOrder.Accept n) = []
@@ -100,7 +101,7 @@ unfoldable pub upsIn : ℕ → List ℕ → List ℕ → Saying → List Record
 upsIn i mac m Unsaid = []
 upsIn i mac m (Says r) = up i r (behindReply mac m r) ∷ []
 
--- Within a call the line order comes first, then F, then the message up.
+-- the records of an effect, in their order
 unfoldable pub told : ℕ → ℕ → Slot → List ℕ → List ℕ → Effect → List Record
 told i c own mac m e = inOrder (ordersIn i c own m (e .order)) (flushIf (e .flush) i) (upsIn i mac m (e .up))
 
@@ -163,7 +164,7 @@ effectOf x k s service.Unbind = acting (onward x s) Untold true (ok x)
 effectOf x k s (service.Connect at) = acting (onward x s) (Tells (lineOrder.Connect at)) false Unsaid
 -- a
 effectOf x k s (service.Accept n) = accepting x s n
--- d; F from 11, 12, 13
+-- d, from 9; and from 8, 11, 12, 13, with F from the last three
 effectOf x k s (service.Deny n reason) = acting (less x s n) (Tells (lineOrder.Disconnect n reason)) false (ok x)
 effectOf x k s (service.Disconnect reason) =
     acting (onward x s) (Tells (lineOrder.Disconnect noNumber reason)) (isAmong joinedStates s) (ok x)

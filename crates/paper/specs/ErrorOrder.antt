@@ -86,42 +86,42 @@ judgeCarrier s n count (Other c x) = judgeOther s n x
 
 -- 6. CONNECT_RES: number not open here, BADCORR. QOS length not 0, BADQOSTYPE.
 unfoldable pub judgeAccept : Stream → ConnectResponse → Bool → ℕ → Carrier → Verdict
-judgeAccept s a isOpen count carrier =
-    not isOpen ⇒ Fails rule.AcceptNotOpen
+judgeAccept s a numberOpen count carrier =
+    not numberOpen ⇒ Fails rule.AcceptNotOpen
     ∣ not (eqb (a .qos) 0) ⇒ Fails rule.AcceptQos
     ∣ judgeCarrier s (a .correlation) count carrier
 
 -- 7. DISCONNECT_REQ: in state 9 a number not open here, elsewhere a number not 0: BADCORR.
 unfoldable pub judgeDenial : DisconnectRequest → Bool → Verdict
-judgeDenial d isOpen = not isOpen ⇒ Fails rule.DenialNotOpen ∣ Serves (service.Deny (d .correlation) (d .reason))
+judgeDenial d numberOpen = not numberOpen ⇒ Fails rule.DenialNotOpen ∣ Serves (service.Deny (d .correlation) (d .reason))
 
 unfoldable pub judgeDisconnect : Stream → DisconnectRequest → Bool → Verdict
-judgeDisconnect s d isOpen =
-    isIn 9 s ⇒ judgeDenial d isOpen
+judgeDisconnect s d numberOpen =
+    isIn 9 s ⇒ judgeDenial d numberOpen
     ∣ not (eqb (d .correlation .0) 0) ⇒ Fails rule.NumberNotZero
     ∣ Serves (service.Disconnect (d .reason))
 
 -- Steps 3 to 7, by the request: what each reads of its sight stands beside it.
-unfoldable pub judgeServed : Sight → Request → Verdict
-judgeServed s request.Info = Serves service.Inform
-judgeServed s request.Token = Serves service.TellToken
-judgeServed s (request.Attach p) = judgeAttach p (s .answer .known)
-judgeServed s request.Detach = Serves service.Detach
-judgeServed s (request.Bind b) = judgeBind b (s .answer .listened)
-judgeServed s request.Unbind = Serves service.Unbind
-judgeServed s (request.Connect c) = judgeConnect c
-judgeServed s (request.ConnectRes a) =
+unfoldable pub judgeRequest : Sight → Request → Verdict
+judgeRequest s request.Info = Serves service.Inform
+judgeRequest s request.Token = Serves service.TellToken
+judgeRequest s (request.Attach p) = judgeAttach p (s .answer .known)
+judgeRequest s request.Detach = Serves service.Detach
+judgeRequest s (request.Bind b) = judgeBind b (s .answer .listened)
+judgeRequest s request.Unbind = Serves service.Unbind
+judgeRequest s (request.Connect c) = judgeConnect c
+judgeRequest s (request.ConnectRes a) =
     judgeAccept (s .own .stream) a (has (a .correlation .0) (s .own .waiting)) (length (s .own .waiting)) (s .answer .carrier)
-judgeServed s (request.Disconnect d) = judgeDisconnect (s .own .stream) d (has (d .correlation .0) (s .own .waiting))
-judgeServed s request.Reset = Serves service.Reset
-judgeServed s request.ResetRes = Serves service.ResetRes
+judgeRequest s (request.Disconnect d) = judgeDisconnect (s .own .stream) d (has (d .correlation .0) (s .own .waiting))
+judgeRequest s request.Reset = Serves service.Reset
+judgeRequest s request.ResetRes = Serves service.ResetRes
 
 -- The order of errors as a whole, on a message: the first rule that applies, or what serves it. (The last argument is the
 -- sight's row.)
 abbrev pub verdictBy : Sight → Asked → Found → Verdict
 verdictBy s (Wrong r) f = Fails r
 verdictBy s (For q) Missing = Fails rule.NoRow
-verdictBy s (For q) (At x) = judgeServed s q
+verdictBy s (For q) (At x) = judgeRequest s q
 
 abbrev pub verdict : Sight → Asked → Verdict
 verdict s a = verdictBy s a (s .row)

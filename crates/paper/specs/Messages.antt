@@ -17,12 +17,12 @@ use Rattle.paper.specs.declared.Asked.the-variants.{For, Wrong}
 abbrev pub codeIn : List ℕ → ℕ
 codeIn m = be32At m 0
 
--- The codes of step 1 of the order of errors.
-abbrev pub unsupportedCodes : List ℕ
-unsupportedCodes = 0x07 ∷ 0x0a ∷ 0x15 ∷ 0x1b ∷ 0x1d ∷ 0x1e ∷ 0x1f ∷ 0x20 ∷ []
+-- The codes that step 1 of the order of errors answers with NOTSUPPORTED.
+abbrev pub notSupportedCodes : List ℕ
+notSupportedCodes = 0x07 ∷ 0x0a ∷ 0x15 ∷ 0x1b ∷ 0x1d ∷ 0x1e ∷ 0x1f ∷ 0x20 ∷ []
 
 unfoldable pub otherCode : ℕ → Primitive
-otherCode code = has code unsupportedCodes ⇒ primitive.NotSupported ∣ primitive.NotServed
+otherCode code = has code notSupportedCodes ⇒ primitive.NotSupported ∣ primitive.NotServed
 
 unfoldable pub primitiveOf : ℕ → Primitive
 primitiveOf code =

@@ -24,11 +24,12 @@ opens t =
     ltb (lowestFree t) 16 ⇒ servedOpening (withSlot (remembering t) (lowestFree t) justOpened) (lowestFree t)
     ∣ refused t allOpen
 
--- Close writes a d with reason 0: from 8, 11, 12, 13 one with correlation 0, from 9 one for each open indication with
--- its number, oldest first.
+-- a d with reason 0
 abbrev pub goodbye : ℕ → ℕ → Record
 goodbye i n = order i (lineOrder.Disconnect (record { 0 = n }) 0) []
 
+-- Close writes a d with reason 0: from 8, 11, 12, 13 one with correlation 0, from 9 one for each open indication with
+-- its number, oldest first.
 unfoldable pub goodbyes : ℕ → Slot → List Record
 goodbyes i x =
     isIn 9 (x .stream) ⇒ map (goodbye i) (x .waiting)

@@ -40,11 +40,12 @@ abbrev pub allBytes : List Record → List ℕ
 allBytes [] = []
 allBytes (r ∷ rs) = bytesOf r ++ allBytes rs
 
--- Within a call the line order comes first, then F, then the message up.
+-- F where it is due
 abbrev pub flushIf : Bool → ℕ → List Record
 flushIf true s = flush s ∷ []
 flushIf false s = []
 
+-- Within a call the line order comes first, then F, then the message up.
 unfoldable pub inOrder : List Record → List Record → List Record → List Record
 inOrder orders flushes ups = orders ++ flushes ++ ups
 

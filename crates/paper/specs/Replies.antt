@@ -11,7 +11,7 @@ use Rattle.paper.specs.declared.Stream.{Stream}
 use Rattle.paper.specs.declared.Reply.{Reply}
 use Rattle.paper.specs.declared.Reply.the-variants.{InfoAck, BindAck, ErrorAck, OkAck, ConnectInd, ConnectCon, TokenAck, DisconnectInd, ResetInd, ResetCon}
 
--- The originator is always the same.
+-- The originator is always 0x0701.
 abbrev pub originator : ℕ
 originator = 0x0701
 
@@ -28,12 +28,13 @@ sapLength sap = pick (ltb sap 256) 1 2
 abbrev pub addressLength : ℕ → ℕ
 addressLength sap = 6 + sapLength sap
 
--- INFO_ACK. Unbound: address length, SAP length and address offset 0, mode 3. Bound: address offset 76, the SAP length
--- is minus 1 or minus 2 in two's complement, the bound mode.
+-- INFO_ACK in order, with the five fields that differ from stream to stream
 abbrev pub infoFields : ℕ → ℕ → ℕ → ℕ → ℕ → List ℕ
 infoFields state address sap mode offset =
     1497 ∷ 0 ∷ address ∷ 0 ∷ 0 ∷ state ∷ sap ∷ mode ∷ 0 ∷ 0 ∷ 0 ∷ 0 ∷ 0x0501 ∷ offset ∷ 2 ∷ 6 ∷ (76 + address) ∷ 0 ∷ []
 
+-- Unbound: address length, SAP length and address offset 0, mode 3. Bound: address offset 76, the SAP length is minus 1 or
+-- minus 2 in two's complement, the bound mode.
 unfoldable pub infoOf : Stream → List ℕ
 infoOf s =
     pick (isAmong toldStates s)

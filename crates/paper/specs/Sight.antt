@@ -1,4 +1,5 @@
--- What a call reads of the table, as one value: it decides from that alone.
+-- What a message or an event reads of the table, as one value: what it comes to is decided from that alone. (Refusals 16, 2
+-- and 7 stand before it.)
 use Prim.Native.Nat.{ℕ, suc, _-_}
 use mathlib.Core.Bool.{Bool, false}
 use mathlib.Core.List.{List}
@@ -32,7 +33,7 @@ pub data Coming : Type 0 where
 pub data Question : Type 0 where
   nothing : Question
   isThere : PpaNumber → Question  -- is that PPA there
-  isHeard : ℕ → Question  -- is its own PPA, with that SAP, listened for
+  isListened : ℕ → Question  -- is its own PPA, with that SAP, listened for
   whose : Token → Question  -- which stream does that token name
 
 -- its cause in the state rows, and its question
@@ -49,7 +50,7 @@ requestAsks request.Info = infoReq asking nothing
 requestAsks request.Token = tokenReq asking nothing
 requestAsks (request.Attach p) = attachReq asking isThere p
 requestAsks request.Detach = detachReq asking nothing
-requestAsks (request.Bind b) = bindReq asking isHeard (b .sap)
+requestAsks (request.Bind b) = bindReq asking isListened (b .sap)
 requestAsks request.Unbind = unbindReq asking nothing
 requestAsks (request.Connect c) = connectReq asking nothing
 requestAsks (request.ConnectRes a) = connectRes asking whose (a .token)
@@ -65,7 +66,7 @@ letterOf (event.Withdrawn n reason) = callWithdrawn
 letterOf (event.Resets reason) = peerReset
 letterOf event.Confirmed = resetConfirmed
 
--- A message that is no served request has its code for a cause, and asks nothing.
+-- A message that is no served request asks nothing. Its code is taken for a cause, but what row that finds is not read.
 abbrev pub askingOf : Coming → Asking
 askingOf (sends code (Wrong r)) = code asking nothing
 askingOf (sends code (For q)) = requestAsks q
@@ -94,7 +95,7 @@ unfoldable pub answerTo : Table → ℕ → Found → Question → Answer
 answerTo t i Missing q = answer false false None
 answerTo t i (At x) nothing = answer false false None
 answerTo t i (At x) (isThere p) = answer (knows t p) false None
-answerTo t i (At x) (isHeard sap) = answer false (isListenedFor t (stream t i .ppa) sap) None
+answerTo t i (At x) (isListened sap) = answer false (isListenedFor t (stream t i .ppa) sap) None
 answerTo t i (At x) (whose k) = answer false false (carrierOf t i k)
 
 -- ---- what it sees: its stream, that stream's token and MAC, its state row, and the answer to its question
@@ -112,7 +113,8 @@ sightBy t i row q = record { own = slot t i; token = tokenOf i; mac = macAt t i;
 abbrev pub sightOf : List StateRow → Table → ℕ → Coming → Sight
 sightOf rows t i c = sightBy t i (found rows (stream t i) (askingOf c .cause)) (askingOf c .question)
 
--- the stream that carries a call of stream i: the one that the token names, and i where none is asked for
+-- the stream that carries a call of stream i: the one that the token names; i where no token is asked
+-- for, or it names none
 abbrev pub carrierAt : ℕ → Carrier → ℕ
 carrierAt i Itself = i
 carrierAt i (Other c x) = c

@@ -51,10 +51,11 @@ soundSlot ppas x = pick (x .isOpen) (every (openTests ppas x)) (holdsNothing x)
 unfoldable pub isSingle : Table → ℕ → Bool
 isSingle t n = both (ltb 0 n) (leb (occurrences t n) 1)
 
--- no two streams listen for one PPA and SAP
+-- how many streams listen for a PPA and SAP
 abbrev pub listenersOf : Table → PpaNumber → ℕ → ℕ
 listenersOf t p sap = sumOf (λ (x : Slot). oneIf (listens p sap (x .stream))) (t .slots)
 
+-- no two streams listen for one PPA and SAP
 unfoldable pub isAlone : Table → Stream → Bool
 isAlone t s = asks (ltb 0 (s .granted)) (leb (listenersOf t (s .ppa) (s .sap)) 1)
 

@@ -77,11 +77,11 @@ seats = seat 0 0 ∷ seat 3 0 ∷ seat 6 1 ∷ seat 6 2 ∷ seat 8 1 ∷ seat 9 
 
 -- ---- the rows
 
--- What comes leads, in a mode, from a state to another.
+-- In a mode, what comes leads from one state to another.
 abbrev pub leads : ℕ → ℕ → ℕ → ℕ → StateRow
 leads cause mode from to = record { from = from; mode = mode; cause = cause; to = to; last = to }
 
--- An open indication goes; the last state is for the last one.
+-- The same where an open indication goes: to the last state if it was the last one.
 abbrev pub loses : ℕ → ℕ → ℕ → ℕ → ℕ → StateRow
 loses cause mode from to last = record { from = from; mode = mode; cause = cause; to = to; last = last }
 
@@ -131,6 +131,7 @@ stateRows =
 
 -- ---- a stream's row for what comes
 
+-- x is the row for a state, a mode and what comes
 abbrev pub isRow : ℕ → ℕ → ℕ → StateRow → Bool
 isRow state mode cause x = both (eqb (x .cause) cause) (both (eqb (x .from) state) (eqb (x .mode) mode))
 

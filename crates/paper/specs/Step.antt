@@ -53,7 +53,7 @@ arrives rows t p sap r =
     ∣ not (isListenedFor t p sap) ⇒ refused t nobodyThere
     ∣ comes rows t (listener t p sap) r (brings busy (event.Arrives (record { 0 = nextNumber t })))
 
--- a readable record r, in room enough
+-- record r by what was read, in room enough (what is unreadable has been refused before)
 abbrev pub serveBy : List StateRow → Table → List ℕ → Input → Outcome
 serveBy rows t r input.Unreadable = refused t notARecord
 serveBy rows t r input.Padded = refused t notARecord

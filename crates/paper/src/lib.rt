@@ -68,7 +68,7 @@ pub fn state_of(n: u8) -> State
     }
 }
 
-// An open stream, but for the numbers of its open indications. What it does not hold is zero.
+// A stream, but for the numbers of its open indications. What it does not hold is zero.
 pub struct Stream {
     pub state: State,
     pub mode: u8,

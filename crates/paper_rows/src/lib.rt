@@ -47,7 +47,7 @@ const RESET_CONFIRMED: u8 = b'S';
 // ---- the rows
 
 // A row but for its cause.
-enum Way {
+enum Course {
     // in a mode, from a state to another
     Leads(u8, u8, u8),
     // an open indication goes; the last state is for the last one
@@ -57,77 +57,77 @@ enum Way {
 }
 
 // INFO_REQ and TOKEN_REQ: every state, unchanged.
-fn stays(state: u8, mode: u8) -> Way
+fn stays(state: u8, mode: u8) -> Course
     ensures { λ r. ⌜ ((cause : ℕ) → along r state mode cause ≡ foundIn (map (stays cause) seats) state mode cause) ⌝ }
 {
     match state {
-        0 => Way::Leads(0, 0, 0),
-        3 => Way::Leads(0, 3, 3),
+        0 => Course::Leads(0, 0, 0),
+        3 => Course::Leads(0, 3, 3),
         6 => {
             if mode == 1 {
-                return Way::Leads(1, 6, 6);
+                return Course::Leads(1, 6, 6);
             }
-            Way::Leads(2, 6, 6)
+            Course::Leads(2, 6, 6)
         }
-        8 => Way::Leads(1, 8, 8),
-        9 => Way::Leads(1, 9, 9),
-        11 => Way::Leads(1, 11, 11),
-        12 => Way::Leads(1, 12, 12),
-        _ => Way::Leads(1, 13, 13),
+        8 => Course::Leads(1, 8, 8),
+        9 => Course::Leads(1, 9, 9),
+        11 => Course::Leads(1, 11, 11),
+        12 => Course::Leads(1, 12, 12),
+        _ => Course::Leads(1, 13, 13),
     }
 }
 
 // The one row that a cause can have in a state and a mode. (The last of several stands for every other state: it is tested.)
-fn way_of(state: u8, mode: u8, cause: u8) -> Way
+fn way_of(state: u8, mode: u8, cause: u8) -> Course
     ensures { λ r. ⌜ along r state mode cause ≡ foundIn stateRows state mode cause ⌝ }
 {
     match cause {
         INFO_REQ => stays(state, mode),
         TOKEN_REQ => stays(state, mode),
         // ATTACH 0 to 3, DETACH 3 to 0, BIND 3 to 6, UNBIND 6 to 3
-        ATTACH_REQ => Way::Leads(0, 0, 3),
-        DETACH_REQ => Way::Leads(0, 3, 0),
-        BIND_REQ => Way::Leads(0, 3, 6),
+        ATTACH_REQ => Course::Leads(0, 0, 3),
+        DETACH_REQ => Course::Leads(0, 3, 0),
+        BIND_REQ => Course::Leads(0, 3, 6),
         UNBIND_REQ => {
             if mode == 1 {
-                return Way::Leads(1, 6, 3);
+                return Course::Leads(1, 6, 3);
             }
-            Way::Leads(2, 6, 3)
+            Course::Leads(2, 6, 3)
         }
         // On a stream bound in mode 1: CONNECT_REQ 6 to 8; CONNECT_RES from 9
-        CONNECT_REQ => Way::Leads(1, 6, 8),
-        CONNECT_RES => Way::Loses(1, 9, 9, 6),
+        CONNECT_REQ => Course::Leads(1, 6, 8),
+        CONNECT_RES => Course::Loses(1, 9, 9, 6),
         // DISCONNECT_REQ from 8, 9, 11, 12, 13: a denial leads to 6 or 9, and other disconnects to 6
         DISCONNECT_REQ => match state {
-            8 => Way::Leads(1, 8, 6),
-            9 => Way::Loses(1, 9, 9, 6),
-            11 => Way::Leads(1, 11, 6),
-            12 => Way::Leads(1, 12, 6),
-            _ => Way::Leads(1, 13, 6),
+            8 => Course::Leads(1, 8, 6),
+            9 => Course::Loses(1, 9, 9, 6),
+            11 => Course::Leads(1, 11, 6),
+            12 => Course::Leads(1, 12, 6),
+            _ => Course::Leads(1, 13, 6),
         },
         // RESET_REQ 11 to 12; RESET_RES 13 to 11
-        RESET_REQ => Way::Leads(1, 11, 12),
-        RESET_RES => Way::Leads(1, 13, 11),
+        RESET_REQ => Course::Leads(1, 11, 12),
+        RESET_RES => Course::Leads(1, 13, 11),
         // Events: I 6 or 9 to 9
         CALL_ARRIVES => match state {
-            6 => Way::Leads(1, 6, 9),
-            _ => Way::Leads(1, 9, 9),
+            6 => Course::Leads(1, 6, 9),
+            _ => Course::Leads(1, 9, 9),
         },
         // A 8 to 11
-        PEER_ACCEPTED => Way::Leads(1, 8, 11),
+        PEER_ACCEPTED => Course::Leads(1, 8, 11),
         // D 8, 11, 12, 13 to 6
         PEER_GONE => match state {
-            8 => Way::Leads(1, 8, 6),
-            11 => Way::Leads(1, 11, 6),
-            12 => Way::Leads(1, 12, 6),
-            _ => Way::Leads(1, 13, 6),
+            8 => Course::Leads(1, 8, 6),
+            11 => Course::Leads(1, 11, 6),
+            12 => Course::Leads(1, 12, 6),
+            _ => Course::Leads(1, 13, 6),
         },
         // W: a listener that loses an open indication goes to 6 at the last one
-        CALL_WITHDRAWN => Way::Loses(1, 9, 9, 6),
+        CALL_WITHDRAWN => Course::Loses(1, 9, 9, 6),
         // R 11 to 13, S 12 to 11
-        PEER_RESET => Way::Leads(1, 11, 13),
-        RESET_CONFIRMED => Way::Leads(1, 12, 11),
-        _ => Way::Nowhere,
+        PEER_RESET => Course::Leads(1, 11, 13),
+        RESET_CONFIRMED => Course::Leads(1, 12, 11),
+        _ => Course::Nowhere,
     }
 }
 
@@ -153,7 +153,7 @@ pub fn row_for(s: Stream, cause: u8) -> Found
     let state = paper::number_of(q);
     let way = way_of(state, s.mode, cause);
     match way {
-        Way::Leads(mode, from, to) => {
+        Course::Leads(mode, from, to) => {
             let x = StateRow {
                 from,
                 mode,
@@ -163,7 +163,7 @@ pub fn row_for(s: Stream, cause: u8) -> Found
             };
             row_in(x, state, s.mode)
         }
-        Way::Loses(mode, from, to, last) => {
+        Course::Loses(mode, from, to, last) => {
             let x = StateRow {
                 from,
                 mode,
@@ -173,6 +173,6 @@ pub fn row_for(s: Stream, cause: u8) -> Found
             };
             row_in(x, state, s.mode)
         }
-        Way::Nowhere => Found::Missing,
+        Course::Nowhere => Found::Missing,
     }
 }

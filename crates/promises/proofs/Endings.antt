@@ -30,7 +30,7 @@ use Rattle.paper.specs.declared.PpaNumber.{PpaNumber}
 use Rattle.paper.specs.declared.Request.{Request}
 use Rattle.paper.specs.declared.Request.the-variants as request
 use Rattle.paper.proofs.Fair.{acceptsHere, acceptsOn, denies, disconnects}
-use Rattle.paper.proofs.Walk.{Answered, failing, serving, arriving, Way, refusing, closing, bringing, step-walk}
+use Rattle.paper.proofs.Walk.{Replied, failing, serving, arriving, Way, refusing, closing, bringing, step-walk}
 use Rattle.paper.proofs.Walk as walk
 use Rattle.fates_book.specs.declared.End.{End}
 use Rattle.fates_book.specs.declared.End.the-variants.{Accepted, Denied, Withdrawn, Dropped}
@@ -61,20 +61,20 @@ abbrev pub Tells : ℕ → ℕ → List Line → Outcome → Type 0
 Tells i l ys o = errorsIn (o .records) ≡ [] → telling (said (input.Message i l) (o .opened) (o .records)) ≡ ys
 
 module _ (t : Table) (i l : ℕ) (m : List ℕ) where
-  tells-accept : {a : ConnectResponse} {o : Outcome} → Answered stateRows t i m (For (request.ConnectRes a)) o → Tells i l (Went i (a .correlation .0) Accepted ∷ []) o
+  tells-accept : {a : ConnectResponse} {o : Outcome} → Replied stateRows t i m (For (request.ConnectRes a)) o → Tells i l (Went i (a .correlation .0) Accepted ∷ []) o
   unfolding told inOrder ordersIn upsIn effectOf
   tells-accept (failing v) e = absurd (omega (arith, ap length e))
   tells-accept (serving v h (acceptsHere w k)) e = refl
   tells-accept (serving v h (acceptsOn w k)) e = refl
 
-  tells-denial : {d : DisconnectRequest} {o : Outcome} → 0 < d .correlation .0 → Answered stateRows t i m (For (request.Disconnect d)) o → Tells i l (Went i (d .correlation .0) Denied ∷ []) o
+  tells-denial : {d : DisconnectRequest} {o : Outcome} → 0 < d .correlation .0 → Replied stateRows t i m (For (request.Disconnect d)) o → Tells i l (Went i (d .correlation .0) Denied ∷ []) o
   unfolding told inOrder ordersIn upsIn effectOf
   tells-denial some (failing v) e = absurd (omega (arith, ap length e))
   tells-denial {d} some (serving v h (denies n w)) e = rw (ne-eqb (d .correlation .0) 0 (λ z. omega (arith, z)))
   tells-denial some (serving v h (disconnects n z)) e = absurd (omega (arith, some, z))
 
 pub heard-answered : (x : Harness) (c : Lending) (s : ℕ) (q : Request) (m : CompleteIn x c s q)
-    → Answered stateRows (tableIn x) s (messageIn (c .bytes) (m .size)) (For q) (outcome (tableIn x) c)
+    → Replied stateRows (tableIn x) s (messageIn (c .bytes) (m .size)) (For q) (outcome (tableIn x) c)
 heard-answered x c = complete-answered stateRows (tableIn x) (sound-test (tableIn x) (agreed x 0 .sound)) (c .bytes) (length (c .room))
 
 -- what a complete message says where no error is told

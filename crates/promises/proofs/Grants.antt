@@ -16,7 +16,7 @@ use Rattle.paper.specs.declared.Asked.the-variants.{For}
 use Rattle.paper.specs.declared.BindRequest.{BindRequest}
 use Rattle.paper.specs.declared.Request.the-variants as request
 use Rattle.paper.proofs.Fair.{binds}
-use Rattle.paper.proofs.Walk.{Answered, failing, serving}
+use Rattle.paper.proofs.Walk.{Replied, failing, serving}
 use Rattle.fates_book.specs.declared.Line.{Line}
 use Rattle.fates_book.specs.declared.Line.the-variants.{Given}
 use Rattle.fates_book.specs.Lines.{telling}
@@ -32,7 +32,7 @@ use Rattle.promises.proofs.Openings.{opening-says}
 pub opening-grants-none : (x : Harness) (c : Lending) (s : ℕ) → opensStream s (nextIn x c) ≡ true → grantedBy s (heardIn (andThen x c)) ≡ 0
 opening-grants-none x c s h = grant-more x c s ∙ ap (λ (ys : List Line). grantBy s ys (grantedBy s (heardIn x))) (opening-says x c s h) ∙ rw (eq-eqb s s refl)
 
-tells-bind : (t : Table) (i l : ℕ) (m : List ℕ) {b : BindRequest} {o : Outcome} → Answered stateRows t i m (For (request.Bind b)) o
+tells-bind : (t : Table) (i l : ℕ) (m : List ℕ) {b : BindRequest} {o : Outcome} → Replied stateRows t i m (For (request.Bind b)) o
     → Tells i l (Given i (grantOf (b .mode) (b .most)) ∷ []) o
 unfolding told inOrder ordersIn upsIn effectOf
 tells-bind t i l m (failing v) e = absurd (omega (arith, ap length e))

@@ -11,7 +11,7 @@ use Rattle.ledger.specs.Tally.{has}
 use Rattle.ledger.proofs.Tallies.{chosen}
 use Rattle.paper.specs.Base.{number, isIn, connectionStates, Table, stream, waiting}
 use Rattle.paper.specs.ErrorCodes.{badCorr}
-use Rattle.paper.specs.ErrorOrder.{judgeOther, judgeItself, judgeCarrier, judgeAccept, judgeDenial, judgeDisconnect, judgeServed, verdictBy, verdictOn}
+use Rattle.paper.specs.ErrorOrder.{judgeOther, judgeItself, judgeCarrier, judgeAccept, judgeDenial, judgeDisconnect, judgeRequest, verdictBy, verdictOn}
 use Rattle.paper.specs.Sight.{requestAsks, carrierOf, answerTo, sightBy}
 use Rattle.paper.specs.StateRows.{connectRes, disconnectReq, loses, stateRows, foundIn, found}
 use Rattle.paper.specs.declared.Asked.the-variants.{For}
@@ -38,17 +38,17 @@ module _ (t : Table) (s : ℕ) (k : Sound t) (e : isIn 9 (stream t s) ≡ true) 
   in-nine cause =
       let n : number (stream t s) ≡ 9 = eqb-true _ _ e in
       ap (λ (a : ℕ). foundIn stateRows a (stream t s .mode) cause) n
-      ∙ ap (λ (a : ℕ). foundIn stateRows 9 a cause) (k .each s .joined (ap (λ (a : ℕ). has a connectionStates) n))
+      ∙ ap (λ (a : ℕ). foundIn stateRows 9 a cause) (k .each s .connected (ap (λ (a : ℕ). has a connectionStates) n))
 
   -- the verdict by that row
   by-row : (q : Request) (x : StateRow) → foundIn stateRows 9 1 (requestAsks q .cause) ≡ At x
-      → verdictOn stateRows t s m (For q) ≡ judgeServed (sightBy t s (At x) (requestAsks q .question)) q
+      → verdictOn stateRows t s m (For q) ≡ judgeRequest (sightBy t s (At x) (requestAsks q .question)) q
   by-row q x h = ap (λ (f : Found). verdictBy (sightBy t s f (requestAsks q .question)) (For q) f) (in-nine (requestAsks q .cause) ∙ h)
 
   -- ---- a denial
 
   judged-denial : (d : DisconnectRequest) → verdictOn stateRows t s m (For (request.Disconnect d)) ≡ judgeDenial d (has (d .correlation .0) (waiting t s))
-  unfolding judgeServed judgeDisconnect _⇒_∣_
+  unfolding judgeRequest judgeDisconnect _⇒_∣_
   judged-denial d = by-row (request.Disconnect d) (loses disconnectReq 1 9 9 6) refl ∙ rw e
 
   pub names-denial : (d : DisconnectRequest) → not (has badCorr (errorsBy (verdictOn stateRows t s m (For (request.Disconnect d))))) ≡ has (d .correlation .0) (waiting t s)
@@ -75,8 +75,8 @@ module _ (t : Table) (s : ℕ) (k : Sound t) (e : isIn 9 (stream t s) ≡ true) 
       chosen (Names (n .0)) _ _ _ (λ g. record { is = sym h }) (λ g. chosen (Names (n .0)) _ _ _ (λ g. record { is = sym h })
       (λ g. chosen (Names (n .0)) _ _ _ (λ g. record { is = sym h }) (λ g. record { is = sym h })))
 
-  judged-accept : (x : StateRow) (a : ConnectResponse) → Names (a .correlation .0) (judgeServed (sightBy t s (At x) (requestAsks (request.ConnectRes a) .question)) (request.ConnectRes a))
-  unfolding answerTo judgeServed judgeAccept
+  judged-accept : (x : StateRow) (a : ConnectResponse) → Names (a .correlation .0) (judgeRequest (sightBy t s (At x) (requestAsks (request.ConnectRes a) .question)) (request.ConnectRes a))
+  unfolding answerTo judgeRequest judgeAccept
   judged-accept x a =
       chosen (Names (a .correlation .0)) _ _ _ (λ f. record { is = sym (not-true _ f) })
       (λ f. chosen (Names (a .correlation .0)) _ _ _ (λ g. record { is = sym (not-false _ f) }) (λ g. names-carrier (a .correlation) (not-false _ f) (carrierOf t s (a .token))))

@@ -12,7 +12,7 @@ use Rattle.ledger.specs.Tally.{has}
 use Rattle.ledger.proofs.Tallies.{chosen}
 use Rattle.paper.specs.Base.{isIn, Table, stream, waiting}
 use Rattle.paper.specs.ErrorCodes.{outState}
-use Rattle.paper.specs.ErrorOrder.{judgeAttach, judgeListening, judgeBind, judgeConnect, judgeOther, judgeItself, judgeCarrier, judgeAccept, judgeDenial, judgeDisconnect, judgeServed, verdictBy, verdictOn}
+use Rattle.paper.specs.ErrorOrder.{judgeAttach, judgeListening, judgeBind, judgeConnect, judgeOther, judgeItself, judgeCarrier, judgeAccept, judgeDenial, judgeDisconnect, judgeRequest, verdictBy, verdictOn}
 use Rattle.paper.specs.RecordsIn.{messageIn}
 use Rattle.paper.specs.Sight.{requestAsks, carrierOf, answerTo, sightBy}
 use Rattle.paper.specs.Sound.{sound}
@@ -77,8 +77,8 @@ module _ (t : Table) (i : ℕ) where
       P = Says (both isOpen (both (eqb (a .qos) 0) (isBusy c)))
 
   -- of the requests with a row, such an accept
-  says-served : (x : StateRow) (q : Request) → Says (offersBusy t i q) (judgeServed (sightBy t i (At x) (requestAsks q .question)) q)
-  unfolding answerTo judgeServed judgeAttach judgeBind judgeListening judgeConnect judgeDisconnect judgeDenial
+  says-served : (x : StateRow) (q : Request) → Says (offersBusy t i q) (judgeRequest (sightBy t i (At x) (requestAsks q .question)) q)
+  unfolding answerTo judgeRequest judgeAttach judgeBind judgeListening judgeConnect judgeDisconnect judgeDenial
   says-served x request.Info = serves
   says-served x request.Token = serves
   says-served x (request.Attach p) = _ ⟹ fails refl ∣ serves

@@ -16,7 +16,7 @@ use Rattle.paper.specs.declared.Request.{Request}
 use Rattle.paper.specs.declared.StateRow.{StateRow}
 use Rattle.paper.specs.declared.Verdict.{Verdict}
 use Rattle.paper.specs.declared.Verdict.the-variants.{Serves, Fails}
-use Rattle.paper.proofs.Walk.{Answered, failing, serving, answers}
+use Rattle.paper.proofs.Walk.{Replied, failing, serving, answers}
 use Rattle.promises.specs.Answers.{Complete}
 use Rattle.promises.proofs.Written.{errorsIn, service-silent, told-errors}
 use Rattle.paper.specs.ErrorOrder.{verdictOn}
@@ -26,7 +26,7 @@ errorsBy (Serves v) = []
 errorsBy (Fails w) = errorOf w ∷ []
 
 module _ (rows : List StateRow) (t : Table) where
-  pub answer-tells : {i : ℕ} {m : List ℕ} {a : Asked} {o : Outcome} → Answered rows t i m a o → errorsIn (o .records) ≡ errorsBy (verdictOn rows t i m a)
+  pub answer-tells : {i : ℕ} {m : List ℕ} {a : Asked} {o : Outcome} → Replied rows t i m a o → errorsIn (o .records) ≡ errorsBy (verdictOn rows t i m a)
   answer-tells (failing e) = sym (ap errorsBy e)
   answer-tells {i} {m} (serving {x = x} {c = c} {v = v} e h f) =
       told-errors i c (slot t i) (macAt t i) m (effectOf x (tokenOf i) (stream t i) v)
@@ -35,7 +35,7 @@ module _ (rows : List StateRow) (t : Table) where
 
   -- A complete message that we serve is answered: refusals 16, 10, 1, 2, 5 and 4 do not apply.
   module _ (s : sound t ≡ true) (r : List ℕ) (room i : ℕ) (q : Request) (c : Complete t r room i q) where
-    pub complete-answered : Answered rows t i (messageIn r (c .size)) (For q) (stepBy rows t r room)
+    pub complete-answered : Replied rows t i (messageIn r (c .size)) (For q) (stepBy rows t r room)
     complete-answered = answers rows t r room s (c .roomy) (c .read) (record { isOpen = c .isOpen; coded = c .coded; whole = c .whole }) (c .asks)
 
     pub complete-tells : errorsIn (stepBy rows t r room .records) ≡ errorsBy (verdictOn rows t i (messageIn r (c .size)) (For q))

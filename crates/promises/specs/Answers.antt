@@ -59,11 +59,12 @@ pub record Complete (t : Table) (r : List ℕ) (room i : ℕ) (q : Request) : Ty
 abbrev pub verdictOf : List StateRow → Table → ℕ → List ℕ → Verdict
 verdictOf rows t i m = verdictOn rows t i m (askedBy m)
 
--- a row of the state table for a request of a stream that stands as s
+-- there is a row
 abbrev pub isFound : Found → Bool
 isFound (At x) = true
 isFound Missing = false
 
+-- a row of the state table for a request of a stream that stands as s
 abbrev pub hasRow : List StateRow → Stream → Request → Bool
 hasRow rows s q = isFound (found rows s (requestAsks q .cause))
 

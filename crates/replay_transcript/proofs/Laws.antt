@@ -15,7 +15,6 @@ use Rattle.paper.proofs.Sizes.{size-within}
 
 -- ---- how long
 
-
 -- no more is shown than is there
 part-within : (r : List ℕ) (at n : ℕ) → length (part r at n) ≤ length r
 part-within r at n = omega (arith, length-take n (drop at r), length-drop at r)

@@ -13,7 +13,6 @@ use paper::Stream;
 
 // ---- streams
 
-
 // The stream in the bytes of a slot.
 fn stream_from(c: &[u8]) -> Stream
     requires { ⌜ length (now c) ≡ 42 ⌝ }

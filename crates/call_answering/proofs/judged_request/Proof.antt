@@ -1,35 +1,35 @@
 use Rattle.paper.specs.Sight.{answerTo}
-use Rattle.paper.specs.ErrorOrder.{judgeServed}
+use Rattle.paper.specs.ErrorOrder.{judgeRequest}
 use borrow.Author.Needs.{needs}
 use Rattle.call_answering.proofs.judged_request.Statement.{statement}
 use Rattle.call_answering.proofs.judged_request.Tie as tie
 
 returns : tie.Need-returns
-unfolding judgeServed answerTo
+unfolding judgeRequest answerTo
 returns c = λ x. (rw (c .before .enum-told .given .1, c .alone .ensures), rw (c .before .enum-told .given .1, c .alone .ensures))
 
 returns-2 : tie.Need-returns-2
-unfolding judgeServed answerTo
+unfolding judgeRequest answerTo
 returns-2 c = λ x. (rw (c .before .enum-told2 .given .1, c .alone2 .ensures), rw (c .before .enum-told2 .given .1, c .alone2 .ensures))
 
 returns-3 : tie.Need-returns-3
-unfolding judgeServed answerTo
+unfolding judgeRequest answerTo
 returns-3 c = λ x. (rw (c .before .before .before .before .q .given .1, c .alone3 .ensures, c .before .judge-attach .ensures, c .before .before .knows .ensures), rw (c .before .before .before .before .q .given .1, c .alone3 .ensures))
 
 returns-4 : tie.Need-returns-4
-unfolding judgeServed answerTo
+unfolding judgeRequest answerTo
 returns-4 c = λ x. (rw (c .before .enum-told3 .given .1, c .alone4 .ensures), rw (c .before .enum-told3 .given .1, c .alone4 .ensures))
 
 returns-5 : tie.Need-returns-5
-unfolding judgeServed answerTo
+unfolding judgeRequest answerTo
 returns-5 c = λ x. (rw (c .before .before .before .before .before .q2 .given .1, c .alone5 .ensures, c .before .judge-bind .ensures, c .before .before .is-listened-for .ensures, c .before .before .before .before .before .before .before .before .pre .3), rw (c .before .before .before .before .before .q2 .given .1, c .alone5 .ensures))
 
 returns-6 : tie.Need-returns-6
-unfolding judgeServed answerTo
+unfolding judgeRequest answerTo
 returns-6 c = λ x. (rw (c .before .enum-told4 .given .1, c .alone6 .ensures), rw (c .before .enum-told4 .given .1, c .alone6 .ensures))
 
 returns-7 : tie.Need-returns-7
-unfolding judgeServed answerTo
+unfolding judgeRequest answerTo
 returns-7 c = λ x. (rw (c .before .before .before .q3 .given .1, c .alone7 .ensures, c .before .judge-connect .ensures), rw (c .before .before .before .q3 .given .1, c .alone7 .ensures))
 
 returns-8 : tie.Need-returns-8
@@ -39,11 +39,11 @@ returns-9 : tie.Need-returns-9
 returns-9 c = rw (c .before .before .q5 .given .1) (c .judged-disconnect .ensures)
 
 returns-10 : tie.Need-returns-10
-unfolding judgeServed answerTo
+unfolding judgeRequest answerTo
 returns-10 c = λ x. (rw (c .before .enum-told5 .given .1, c .alone8 .ensures), rw (c .before .enum-told5 .given .1, c .alone8 .ensures))
 
 returns-11 : tie.Need-returns-11
-unfolding judgeServed answerTo
+unfolding judgeRequest answerTo
 returns-11 c = λ x. (rw (c .before .enum-told6 .given .1, c .alone9 .ensures), rw (c .before .enum-told6 .given .1, c .alone9 .ensures))
 
 pub judged-request-spec : {M : Type 1} → statement M
