@@ -8,7 +8,7 @@ use lib.ListN.{length}
 use lib.Dec.{eqb, ltb, leb}
 use borrow.Author.Tests.{eqb-true, leb-true}
 use Rattle.ledger.specs.Choice.{pick, both, either, _⇒_∣_}
-use Rattle.ledger.proofs.Tallies.{both-of, skip, all-at}
+use Rattle.ledger.proofs.Tallies.{both-of, skip, all-at, of-either}
 use Rattle.paper.specs.Base.{isAmong, boundStates, Slot, closed, Table, slot, stream, ppaNumbers}
 use Rattle.paper.specs.RecordsIn.{inputOf}
 use Rattle.paper.specs.Refusals.{littleRoom, notARecord, notSound, refused}
@@ -28,14 +28,10 @@ parts img h = both-of (tidy img) (sound (tableOf img)) h
 
 -- ---- at most 8 are granted
 
-either-of : {P : Type 0} (a b : Bool) → either a b ≡ true → (a ≡ true → P) → (b ≡ true → P) → P
-either-of true b h k l = k refl
-either-of false b h k l = l h
-
 bind-few : (s : Stream) → asBindAllows s ≡ true → s .granted ≤ 8
 unfolding asBindAllows
 bind-few s h =
-    either-of (both (eqb (s .mode) 1) (both (isSap (s .sap)) (leb (s .granted) 8)))
+    of-either (both (eqb (s .mode) 1) (both (isSap (s .sap)) (leb (s .granted) 8)))
     (both (eqb (s .mode) 2) (both (either (isSap (s .sap)) (isType (s .sap))) (eqb (s .granted) 0))) h
     (λ e. leb-true _ _ (both-of (isSap (s .sap)) _ (both-of (eqb (s .mode) 1) _ e .1) .1))
     (λ e. omega (arith, eqb-true (s .granted) 0 (both-of (either (isSap (s .sap)) (isType (s .sap))) _ (both-of (eqb (s .mode) 2) _ e .1) .1)))

@@ -6,8 +6,8 @@ use mathlib.Core.Path.{_≡_, refl, sym, ap, _∙_}
 use mathlib.Core.Bool.{Bool, true, false}
 use mathlib.Core.List.{List, [], _∷_}
 use lib.Dec.{eqb}
-use borrow.Author.Tests.{eqb-true, eq-eqb}
-use Rattle.ledger.specs.Choice.{pick, asks}
+use borrow.Author.Tests.{eqb-true}
+use Rattle.ledger.specs.Choice.{pick}
 use Rattle.ledger.specs.Tally.{allOf}
 use Rattle.ledger.proofs.Tallies.{both-of}
 use Rattle.paper.specs.Base.{number}
@@ -15,7 +15,6 @@ use Rattle.paper.specs.StateRows.{isRow, foundIn, found}
 use Rattle.paper.specs.declared.Stream.{Stream}
 use Rattle.paper.specs.declared.StateRow.{StateRow}
 use Rattle.paper.specs.declared.Found.the-variants.{At}
-use Rattle.ledger.proofs.Sums.{of-asks}
 
 record Taken (rows : List StateRow) (state mode cause : ℕ) (x : StateRow) : Type 0 where
   fits : isRow state mode cause x ≡ true
@@ -47,10 +46,6 @@ module _ (rows : List StateRow) (s : Stream) (cause : ℕ) {x : StateRow} (h : f
   pub row-mode : x .mode ≡ s .mode
   row-mode = eqb-true _ _ (both-of (eqb (x .from) (number s)) _ (both-of (eqb (x .cause) cause) _ (row .fits) .1) .1)
 
-  -- what holds of every row of the list holds of it,
+  -- what holds of every row of the list holds of it
   pub has-all : (p : StateRow → Bool) → allOf p rows ≡ true → p x ≡ true
   has-all = row .listed
-
-  -- and what holds of every row for what comes
-  pub has-all-for : (p : StateRow → Bool) → allOf (λ (y : StateRow). asks (eqb (y .cause) cause) (p y)) rows ≡ true → p x ≡ true
-  has-all-for p a = of-asks (eqb (x .cause) cause) (p x) (has-all (λ (y : StateRow). asks (eqb (y .cause) cause) (p y)) a) (eq-eqb _ _ row-cause)

@@ -2,11 +2,11 @@
 -- so a list is tested by numbers.
 use Prim.Native.Nat.{ℕ}
 use mathlib.Core.Path.{_≡_, refl}
-use mathlib.Core.Bool.{Bool, true, false}
+use mathlib.Core.Bool.{true, false}
 use lib.Dec.{eqb, leb}
 use Rattle.ledger.specs.Choice.{either}
 use Rattle.ledger.specs.Tally.{has}
-use Rattle.paper.specs.Base.{numberOf, stateOf, everyState, boundStates, connectionStates, callingStates, joinedStates}
+use Rattle.paper.specs.Base.{numberOf, everyState, boundStates, connectionStates, callingStates, joinedStates}
 use Rattle.paper.specs.declared.State.{State}
 use Rattle.paper.specs.declared.State.the-variants.{Unattached, Unbound, Idle, OutconPending, InconPending, DataXfer, UserResetPending, ProvResetPending}
 

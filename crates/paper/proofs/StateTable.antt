@@ -1,8 +1,7 @@
 -- Of the state rows themselves: each claim is one test, computed over the whole table.
-use Prim.Native.Nat.{ℕ}
 use mathlib.Core.Path.{_≡_, refl}
 use mathlib.Core.Bool.{true}
-use lib.Dec.{eqb, leb}
+use lib.Dec.{eqb}
 use Rattle.ledger.specs.Choice.{both}
 use Rattle.ledger.specs.Tally.{oneIf, has, sumOf, allOf}
 use Rattle.paper.specs.Base.{everyState}

@@ -1,13 +1,13 @@
 -- Laws of the tests: lists of numbers, state numbers, the bounds that a bind's tests give.
 use Prim.Native.Nat.{ℕ, _+_, _<_}
-use mathlib.Core.Path.{_≡_, refl, sym, ap}
+use mathlib.Core.Path.{_≡_, refl, sym}
 use mathlib.Core.Bool.{Bool, true, false, not}
-use mathlib.Core.List.{List, [], _∷_}
+use mathlib.Core.List.{[], _∷_}
 use lib.Dec.{eqb, ltb, leb}
 use native.Mathlib.Omega.{arith}
-use borrow.Author.Tests.{eqb-true, ltb-true, leb-true, lt-ltb}
+use borrow.Author.Tests.{eqb-true, ltb-true, leb-true}
 use Rattle.ledger.specs.Choice.{pick, both, either}
-use Rattle.ledger.specs.Tally.{oneIf, occ, has}
+use Rattle.ledger.specs.Tally.{oneIf, has}
 use Rattle.ledger.proofs.Tallies.{both-of, of-either}
 use Rattle.paper.specs.Base.{numberOf, boundStates, noStream, attachedIn, inState, settled}
 use Rattle.paper.specs.Saps.{isSap, isType, reservedTypes}
@@ -26,13 +26,6 @@ has-one n a = go (eqb n a)
     go : (b : Bool) → ltb 0 (oneIf b + 0) ≡ b
     go true = refl
     go false = refl
-
-pub has-more : (n a : ℕ) (l : List ℕ) → has n (a ∷ l) ≡ either (eqb n a) (has n l)
-has-more n a l = go (eqb n a)
-  where
-    go : (b : Bool) → ltb 0 (oneIf b + occ n l) ≡ either b (ltb 0 (occ n l))
-    go true = lt-ltb 0 (1 + occ n l) (omega arith)
-    go false = ap (ltb 0) (let z : 0 + occ n l ≡ occ n l = omega arith in z)
 
 -- ---- what a bind's tests say of its numbers
 pub mode-fits : (n : ℕ) → either (eqb n 1) (eqb n 2) ≡ true → n < 256

@@ -1,10 +1,9 @@
 -- 'Measured examples', the replay program: what it prints of each call, as bytes of text.
 use Prim.Native.Nat.{ℕ, zero, suc, _+_, _-_, _/_, _%_}
-use mathlib.Core.Bool.{Bool}
 use mathlib.Core.List.{List, [], _∷_, _++_}
 use lib.ListN.{length, getD, take, drop}
 use lib.Dec.{eqb, ltb}
-use Rattle.ledger.specs.Choice.{either, _⇒_∣_}
+use Rattle.ledger.specs.Choice.{_⇒_∣_}
 use Rattle.octets.specs.Runs.{part}
 use Rattle.paper.specs.RecordsOut.{isMessage, sizeOut}
 use Rattle.text.specs.Digits.{decimal, hex}
