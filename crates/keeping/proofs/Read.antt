@@ -1,23 +1,22 @@
 -- What a record of bytes holds is bytes; and one that adds a PPA was read whole, so that it has a MAC of 6 bytes and a number of 4.
 use Prim.Native.Nat.{ℕ, zero, suc, _+_, _≤_, _<_, _^_}
 use native.Mathlib.Omega.{arith}
-use mathlib.Core.Path.{_≡_, sym}
-use mathlib.Core.Bool.{false, false≢true}
+use mathlib.Core.Path.{_≡_}
 use mathlib.Core.List.{List}
 use lib.ListN.{length, getD, drop, replicate}
 use lib.Seq.{getD-drop}
-use lib.Dec.{eqb}
-use borrow.Author.Tests.{leb-true}
+use borrow.Author.Tests.{eqb-false}
 use Rattle.ledger.proofs.Tallies.{chosen}
 use Rattle.octets.specs.Numbers.{be32At}
 use Rattle.octets.specs.Runs.{part}
 use Rattle.table_image.proofs.Joined.{each-take}
-use Rattle.paper.specs.RecordsIn.{kindOf, sizeOf, recordSize, inputAs, inputOf}
+use Rattle.paper.specs.RecordsIn.{kindOf, sizeOf, inputAs, inputOf}
 use Rattle.paper.specs.declared.Kind.{Kind}
 use Rattle.paper.specs.declared.Kind.the-variants as kind
 use Rattle.paper.specs.declared.PpaNumber.{PpaNumber}
 use Rattle.paper.specs.declared.Input.{Input}
 use Rattle.paper.specs.declared.Input.the-variants as input
+use Rattle.paper.proofs.Records.{whole}
 use Rattle.keeping.specs.Soundness.{Bytes}
 
 pub part-bytes : (r : List ℕ) (at n : ℕ) → Bytes r → Bytes (part r at n)
@@ -46,8 +45,8 @@ whole-as r b kind.ResetConfirmed l p e = absurd (let z : _≡_ {A = ℕ} 0 1 = c
 whole-as r b kind.Unknown l p e = absurd (let z : _≡_ {A = ℕ} 0 1 = cc in omega arith)
 
 pub read-whole : (r : List ℕ) → Bytes r → Whole r (inputOf r)
-unfolding inputOf recordSize
+unfolding inputOf
 read-whole r b =
     let k : Kind = kindOf (getD r 0 0) in
     chosen (Whole r) _ _ _ (λ _ p e. absurd (let z : _≡_ {A = ℕ} 0 1 = cc in omega arith))
-    (λ h. whole-as r b k (chosen (λ (n : ℕ). eqb n 0 ≡ false → sizeOf k ≤ length r) _ _ _ (λ e _. leb-true _ _ e) (λ _ z. absurd (false≢true (sym z))) h))
+    (λ h. whole-as r b k (whole r (eqb-false _ _ h)))

@@ -11,16 +11,17 @@ use Rattle.ledger.specs.Choice.{pick, both, either}
 use Rattle.ledger.specs.Tally.{oneIf, occ, has, allOf}
 use Rattle.ledger.proofs.Tallies.{both-of, to-both, picked, all-at, at-all, empty}
 use Rattle.ledger.proofs.Sums.{sum-at, sum-some, all-occ, occ-all, all-sum, of-asks, to-asks}
-use Rattle.paper.specs.Base.{numberOf, isIn, isAmong, boundStates, connectionStates, Slot, closed, Table, slot, stream, waiting, ppaNumbers, noPpa}
+use Rattle.paper.specs.Base.{isIn, isAmong, boundStates, connectionStates, Slot, closed, Table, slot, stream, waiting, ppaNumbers, noPpa}
 use Rattle.paper.specs.Saps.{asBindAllows, listens}
 use Rattle.paper.specs.Correlations.{occurrences}
 use Rattle.paper.specs.Sound.{every, sameAnswer, unbound, holdsNothing, openTests, soundSlot, isSingle, listenersOf, isAlone, soundTests, sound}
 use Rattle.paper.specs.declared.State.{State}
-use Rattle.paper.specs.declared.State.the-variants.{Unattached, Unbound, Idle, OutconPending, InconPending, DataXfer, UserResetPending, ProvResetPending}
+use Rattle.paper.specs.declared.State.the-variants.{Unattached}
 use Rattle.paper.specs.declared.Stream.{Stream}
 use Rattle.paper.specs.declared.PpaNumber.{PpaNumber}
 use Rattle.keeping.specs.Soundness.{cap, Bytes, Ok, Sound}
 use Rattle.keeping.proofs.Changes.{ok-closed}
+use Rattle.paper.proofs.StateNumbers.{in-zero}
 
 to-same : (a b : Bool) → a ≡ b → sameAnswer a b ≡ true
 to-same true b e = sym e
@@ -68,16 +69,6 @@ nth l h i = all-at (λ (b : Bool). b) true refl l h i
 
 zeros : (s : Stream) → every (unbound s) ≡ true → (s .mode ≡ 0) × (s .sap ≡ 0) × (s .granted ≡ 0)
 zeros s h = (eqb-true _ _ (nth (unbound s) h 0), eqb-true _ _ (nth (unbound s) h 1), eqb-true _ _ (nth (unbound s) h 2))
-
-in-zero : (q : State) → numberOf q ≡ 0 → q ≡ Unattached
-in-zero Unattached e = refl
-in-zero Unbound e = absurd (omega arith)
-in-zero Idle e = absurd (omega arith)
-in-zero OutconPending e = absurd (omega arith)
-in-zero InconPending e = absurd (omega arith)
-in-zero DataXfer e = absurd (omega arith)
-in-zero UserResetPending e = absurd (omega arith)
-in-zero ProvResetPending e = absurd (omega arith)
 
 all-zero : (b : Bool) (q : State) (m s p g : ℕ) (w : List ℕ) → b ≡ false → q ≡ Unattached → m ≡ 0 → s ≡ 0 → p ≡ 0 → g ≡ 0 → w ≡ []
     → _≡_ {A = Slot} (record { isOpen = b; stream = record { state = q; mode = m; sap = s; ppa = record { 0 = p }; granted = g }; waiting = w }) closed

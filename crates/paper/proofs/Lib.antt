@@ -1,4 +1,5 @@
 pub mod Examples
+pub mod Records
 pub mod Sizes
 pub mod StateNumbers
 pub mod StateTable

@@ -1,6 +1,7 @@
 -- Of the eight states the bound, connection and joined ones are those from a number on, and the calling ones are 8 and the joined:
 -- so a list is tested by numbers.
 use Prim.Native.Nat.{ℕ}
+use native.Mathlib.Omega.{arith}
 use mathlib.Core.Path.{_≡_, refl}
 use mathlib.Core.Bool.{true, false}
 use lib.Dec.{eqb, leb}
@@ -39,3 +40,14 @@ calling-from = each-number (λ n. has n callingStates ≡ either (eqb n 8) (has 
 -- What is no binding is none in mode 1.
 pub not-bound : (q : State) → has (numberOf q) boundStates ≡ false → has (numberOf q) connectionStates ≡ false
 not-bound = each-number (λ n. has n boundStates ≡ false → has n connectionStates ≡ false) (λ e. refl) (λ e. refl) (λ e. refl) (λ e. e) (λ e. e) (λ e. e) (λ e. e) (λ e. e)
+
+-- 0 is the number of one state alone.
+pub in-zero : (q : State) → numberOf q ≡ 0 → q ≡ Unattached
+in-zero Unattached e = refl
+in-zero Unbound e = absurd (omega arith)
+in-zero Idle e = absurd (omega arith)
+in-zero OutconPending e = absurd (omega arith)
+in-zero InconPending e = absurd (omega arith)
+in-zero DataXfer e = absurd (omega arith)
+in-zero UserResetPending e = absurd (omega arith)
+in-zero ProvResetPending e = absurd (omega arith)

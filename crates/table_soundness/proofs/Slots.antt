@@ -18,7 +18,7 @@ use Rattle.paper.specs.Base.{numberOf, isIn, noStream, Slot, closed, Table, slo
 use Rattle.paper.specs.Sound.{every, unbound, holdsNothing, openTests, soundSlot, isSingle, isAlone, remembersOpenings, soundTests, sound}
 use Rattle.paper.specs.Correlations.{occurrences}
 use Rattle.paper.specs.declared.State.{State}
-use Rattle.paper.specs.declared.State.the-variants.{Unattached, Unbound, Idle, OutconPending, InconPending, DataXfer, UserResetPending, ProvResetPending}
+use Rattle.paper.specs.declared.State.the-variants.{Unbound, Idle, OutconPending, InconPending, DataXfer, UserResetPending, ProvResetPending}
 use Rattle.paper.specs.declared.Stream.{Stream}
 use Rattle.paper.specs.declared.Ppa.{Ppa}
 use Rattle.table_image.specs.Layout.{ppaBase, slotBase, slotParts, ppaFrom, ppaAt, tableOf, streamBytes, waitingBytes, slotBytes, headerBytes, joined, imageOf, isState, tidy, soundImage}
@@ -30,6 +30,7 @@ use Rattle.table_image.proofs.Lending.{lent-tidy}
 use Rattle.table_lookup.proofs.Laws.{ppa-place}
 use Rattle.table_soundness.proofs.Laws.{both-assoc, both-swap, same-test, map-at, all-both, occ-joined, all-joined}
 use Rattle.table_soundness.specs.Groups.{isAttachedRight, isBoundRight, isCountRight, openNumbers, isSingleIn, areSingle, isStreamSound}
+use Rattle.paper.proofs.StateNumbers.{in-zero}
 
 -- ---- states
 
@@ -90,16 +91,6 @@ none-open zero g = sym (le-leb 0 g (omega arith))
 none-open (suc n) g = rw (eqb·suc-zero n, lt-ltb 0 (suc n) (omega arith))
 
 -- ---- closed streams
-
-in-zero : (q : State) → numberOf q ≡ 0 → q ≡ Unattached
-in-zero Unattached e = refl
-in-zero Unbound e = absurd (omega arith)
-in-zero Idle e = absurd (omega arith)
-in-zero OutconPending e = absurd (omega arith)
-in-zero InconPending e = absurd (omega arith)
-in-zero DataXfer e = absurd (omega arith)
-in-zero UserResetPending e = absurd (omega arith)
-in-zero ProvResetPending e = absurd (omega arith)
 
 nth : (l : List Bool) → every l ≡ true → (i : ℕ) → getD l i true ≡ true
 nth l h i = all-at (λ (b : Bool). b) true refl l h i

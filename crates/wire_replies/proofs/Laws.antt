@@ -2,21 +2,18 @@
 use Prim.Native.Nat.{ℕ, _+_, _*_, _-_, _≤_}
 use native.Mathlib.Nat.{zero-add}
 use native.Mathlib.Omega.{arith}
-use mathlib.Core.Path.{_≡_, refl, sym, ap, ap₂, _∙_}
-use mathlib.Core.Bool.{Bool, true, false}
+use mathlib.Core.Path.{_≡_, sym, ap, ap₂, _∙_}
 use mathlib.Core.List.{List, _++_}
 use lib.ListN.{length, take, drop, replicate, length-append, length-replicate, replicate-append-replicate}
 use lib.Seq.{take-at, drop-at, take-append-add}
-use Rattle.ledger.specs.Choice.{pick}
 use Rattle.octets.specs.Runs.{part, paste, over}
 use Rattle.octets.specs.Blocks.{flat, pad}
 use Rattle.octets.proofs.Laws.{paste-join, flat-length}
-use Rattle.paper.specs.Base.{isAmong, toldStates}
-use Rattle.paper.specs.Replies.{infoOf, fieldsOf, contentOf}
+use Rattle.paper.specs.Replies.{fieldsOf, contentOf}
 use Rattle.paper.specs.RecordsOut.{up, bytesOf}
-use Rattle.paper.specs.declared.Stream.{Stream}
 use Rattle.paper.specs.declared.Reply.{Reply}
 use Rattle.paper.specs.declared.Reply.the-variants.{InfoAck, BindAck, ErrorAck, OkAck, ConnectInd, ConnectCon, TokenAck, DisconnectInd, ResetInd, ResetCon}
+use Rattle.paper.proofs.Sizes.{info-length}
 
 -- ---- a room with bytes over its start
 
@@ -53,14 +50,6 @@ replicate-part n at k a h =
 -- fields of four bytes each, other bytes behind them
 pub content-length : (fields tail : List ℕ) → length (flat fields ++ tail) ≡ length fields * 4 + length tail
 content-length fields tail = omega (arith, length-append (flat fields) tail, flat-length fields)
-
-pick-length : (b : Bool) (x y : List ℕ) (n : ℕ) → length x ≡ n → length y ≡ n → length (pick b x y) ≡ n
-pick-length true x y n e f = e
-pick-length false x y n e f = f
-
-info-length : (q : Stream) → length (infoOf q) ≡ 18
-unfolding infoOf
-info-length q = pick-length (isAmong toldStates q) _ _ 18 refl refl
 
 -- INFO_ACK has the most fields
 fields-few : (r : Reply) → length (fieldsOf r) ≤ 19

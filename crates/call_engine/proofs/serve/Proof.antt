@@ -5,7 +5,7 @@ use mathlib.Core.List.{List}
 use denote.Ref.{now}
 use Rattle.table_image.specs.Layout.{tableOf}
 use Rattle.table_image.proofs.Joined.{part-length}
-use Rattle.wire_records.proofs.Laws.{adds-long}
+use Rattle.paper.proofs.Records.{adds-long}
 use Rattle.table_soundness.proofs.Slots.{shut, sound-lent}
 use Rattle.call_outcomes.specs.Leaving.{leaving}
 use Rattle.call_outcomes.proofs.Laws.{leaves-refused}

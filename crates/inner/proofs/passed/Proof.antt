@@ -5,7 +5,7 @@ use borrow.Author.Needs.{needs}
 use borrow.Author.Tests.{eq-eqb, ne-eqb}
 use Rattle.ledger.specs.Choice.{_⇒_∣_}
 use Rattle.inner.specs.Run.{passed}
-use Rattle.wire_records.proofs.Laws.{record-within}
+use Rattle.paper.proofs.Records.{record-within}
 use Rattle.inner.proofs.passed.Statement.{statement}
 use Rattle.inner.proofs.passed.Tie as tie
 

@@ -7,7 +7,7 @@ use lib.ListN.{drop, length-take}
 use borrow.Author.Needs.{needs}
 use Rattle.ledger.proofs.Tallies.{one-most}
 use Rattle.turns.specs.Turns.{unread}
-use Rattle.wire_records.proofs.Laws.{record-within}
+use Rattle.paper.proofs.Records.{record-within}
 use Rattle.turns.proofs.after_call.Statement.{statement}
 use Rattle.turns.proofs.after_call.Tie as tie
 

@@ -3,7 +3,7 @@ use borrow.Author.Tests.{eq-eqb, ne-eqb}
 use mathlib.Core.Path.{_∙_}
 use Rattle.ledger.specs.Choice.{_⇒_∣_}
 use Rattle.paper.specs.RecordsIn.{inputOf}
-use Rattle.wire_records.proofs.Laws.{whole}
+use Rattle.paper.proofs.Records.{whole}
 use borrow.Author.Needs.{needs}
 use Rattle.wire_records.proofs.input_of.Statement.{statement}
 use Rattle.wire_records.proofs.input_of.Tie as tie
