@@ -12,7 +12,6 @@ use Rattle.fates_book.specs.declared.End.the-variants.{Denied, Withdrawn}
 use Rattle.fates_book.specs.declared.Line.the-variants.{Nothing}
 use Rattle.ledger.proofs.Sums.{of-asks}
 use Rattle.table_image.proofs.Joined.{part-length}
-use Rattle.table_numbers.proofs.Next.{next-free}
 use Rattle.paper.specs.Base.{number, Slot, closed, Table, fresh, slot, stream, waiting, lowestFree, tokenOf, ppaNumbers, knows, withPpa}
 use Rattle.paper.specs.Saps.{listens}
 use Rattle.paper.specs.RecordsIn.{inputOf}
@@ -46,6 +45,7 @@ use Rattle.keeping.proofs.Closes.{open-nonzero, close-good}
 use Rattle.keeping.proofs.Read.{part-bytes, no-bytes, Whole, read-whole}
 use Rattle.keeping.proofs.Lent.{shaped}
 use Rattle.keeping.proofs.Tested.{sound-test}
+use Rattle.keeping.proofs.NextNumber.{next-free}
 
 -- the next number has four bytes
 next-below : (j : ℕ) (count : ℕ → ℕ) (c : ℕ) → c < 2 ^ 32 → nextFrom j count c < 2 ^ 32

@@ -1,15 +1,27 @@
 -- 'An indication takes the counter's number, passing over 0 and numbers still open': the search ends on such a number, since a table has
 -- at most 128 open numbers and 129 are tried.
-use Prim.Native.Nat.{ℕ, _^_, _<_}
+use Prim.Native.Nat.{ℕ, _+_, _^_, _≤_, _<_}
 use native.Mathlib.Omega.{arith}
 use mathlib.Core.Path.{_≡_}
 use mathlib.Core.Bool.{true}
 use mathlib.Core.List.{List}
-use Rattle.ledger.specs.Tally.{free}
+use lib.ListN.{length}
+use Rattle.ledger.specs.Tally.{sumOf, free}
+use Rattle.ledger.proofs.Tallies.{sum-most}
+use Rattle.ledger.proofs.Found.{finds}
+use Rattle.paper.specs.Base.{Slot, Table, closed}
 use Rattle.paper.specs.Correlations.{occurrences, nextNumber}
 use Rattle.table_image.specs.Layout.{tableOf, tidy}
+use Rattle.table_image.specs.Shape.{Shaped}
 use Rattle.table_image.proofs.TidyImage.{Tidy, tidy-parts, shaped-table}
-use Rattle.table_numbers.proofs.Next.{next-free}
+
+-- At most 16 times 8 numbers are open.
+pub next-free : (t : Table) → Shaped t → t .counter < 2 ^ 32 → free (occurrences t) (nextNumber t) ≡ true
+unfolding occurrences nextNumber
+next-free t s h =
+    let most : 1 + sumOf (λ (x : Slot). length (x .waiting)) (t .slots) ≤ 129 =
+    omega (arith, sum-most (λ (x : Slot). length (x .waiting)) closed 8 (t .slots) (s .eight), s .sixteen) in
+    finds (λ (x : Slot). x .waiting) (t .slots) 129 (t .counter) h most (omega arith)
 
 -- the counter has four bytes
 pub counter-small : (img : List ℕ) → tidy img ≡ true → tableOf img .counter < 2 ^ 32

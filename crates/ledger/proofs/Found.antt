@@ -1,6 +1,6 @@
 -- The next number is open nowhere: of as many numbers in a row as are open, and two more, one is free.
 use Prim.Native.Nat.{ℕ, zero, suc, _+_, _-_, _≤_, _<_, _%_, _^_}
-use mathlib.Core.Path.{_≡_, refl, sym, _∙_}
+use mathlib.Core.Path.{_≡_, refl, sym, ap, _∙_}
 use mathlib.Core.Bool.{Bool, true, false}
 use mathlib.Core.List.{List, [], _∷_}
 use lib.ListN.{length}
@@ -10,6 +10,18 @@ use borrow.Author.Tests.{eqb-true, eqb-false, eq-eqb, ltb-false}
 use Rattle.ledger.specs.Choice.{pick, both}
 use Rattle.ledger.specs.Tally.{oneIf, occ, sumOf, free, nextFrom}
 use Rattle.ledger.proofs.Tallies.{totalOf}
+
+-- the search ends at a number that is free, and else goes on
+module _ (count : ℕ → ℕ) where
+  pub next-here : (k c : ℕ) → 0 < k → free count c ≡ true → nextFrom k count c ≡ c
+  next-here zero c h e = absurd (omega arith)
+  next-here (suc k) c h e = ap (λ (b : Bool). pick b c (nextFrom k count ((c + 1) % 2 ^ 32))) e
+
+  pub next-on : (k c : ℕ) → 0 < k → free count c ≡ false → nextFrom k count c ≡ nextFrom (k - 1) count ((c + 1) % 2 ^ 32)
+  next-on zero c h e = absurd (omega arith)
+  next-on (suc k) c h e =
+      let s : k ≡ suc k - 1 = omega arith in
+      ap (λ (b : Bool). pick b c (nextFrom k count ((c + 1) % 2 ^ 32))) e ∙ ap (λ (j : ℕ). nextFrom j count ((c + 1) % 2 ^ 32)) s
 
 -- the sum of a quantity over k numbers from c on, wrapping
 abbrev along : (ℕ → ℕ) → ℕ → ℕ → ℕ

@@ -1,4 +1,4 @@
--- The open numbers of a stream: where they lie in an image, one more and one less of them, the first place of one.
+-- The open numbers of a stream: where they lie in an image, one more and one less of them, one taken out.
 use Prim.Native.Nat.{ℕ, suc, _+_, _*_, _≤_, _<_, _-_}
 use native.Mathlib.Omega.{arith}
 use native.Mathlib.Numerals.{add-one}
@@ -7,8 +7,8 @@ use mathlib.Core.Bool.{Bool, true, false}
 use mathlib.Core.List.{List, [], _∷_, _++_, append-assoc, append-nil}
 use lib.ListN.{length, getD, take, drop, set, replicate, length-append, length-drop, length-replicate, replicate-append-replicate}
 use lib.Seq.{take-at, drop-at, take-all, drop-cons, split-at, length-take-le}
-use lib.Dec.{eqb, ltb, leb·suc-suc}
-use borrow.Author.Tests.{lt-ltb, le-ltb, ltb-false}
+use lib.Dec.{eqb, ltb}
+use borrow.Author.Tests.{le-ltb, ltb-false}
 use Rattle.ledger.specs.Choice.{pick}
 use Rattle.ledger.specs.Tally.{oneIf, occ, has, without, firstOf}
 use Rattle.octets.specs.Numbers.{be32At, be32}
@@ -136,29 +136,9 @@ less-bytes w k h g =
     ∙ ap (λ (r : List ℕ). set r 0 (length w - 1)) j
     ∙ ap₂ (λ (i : ℕ) (r : List ℕ). i ∷ r) c v
 
--- ---- the first place of a number
+-- ---- a number taken out
 
 module _ (n : ℕ) where
-  -- it stands at a place, or the search goes on
-  pub first-here : (l : List ℕ) (k : ℕ) → k < length l → eqb n (getD l k 0) ≡ true → k + firstOf (eqb n) (drop k l) ≡ k
-  first-here l k h e = rw (drop-cons l k 0, e) (omega arith)
-
-  pub first-next : (l : List ℕ) (k : ℕ) → k < length l → eqb n (getD l k 0) ≡ false
-      → k + firstOf (eqb n) (drop k l) ≡ k + 1 + firstOf (eqb n) (drop (k + 1) l)
-  first-next l k h e = rw (drop-cons l k 0, e, add-one) (omega arith)
-
-  -- a number is there exactly if its first place is one of the list's
-  pub has-first : (l : List ℕ) → ltb (firstOf (eqb n) l) (length l) ≡ has n l
-  has-first [] = refl
-  has-first (x ∷ l) = go (eqb n x) (has-first l)
-    where
-      go : (b : Bool) → ltb (firstOf (eqb n) l) (length l) ≡ has n l
-          → ltb (pick b 0 (suc (firstOf (eqb n) l))) (suc (length l)) ≡ ltb 0 (oneIf b + occ n l)
-      go true h = lt-ltb 0 (suc (length l)) (omega arith) ∙ sym (lt-ltb 0 (1 + occ n l) (omega arith))
-      go false h =
-          let z : occ n l ≡ 0 + occ n l = omega arith in
-          leb·suc-suc (suc (firstOf (eqb n) l)) (length l) ∙ h ∙ ap (ltb 0) z
-
   -- where it is not there, none is taken out
   pub without-none : (l : List ℕ) → has n l ≡ false → without n l ≡ l
   without-none [] h = refl

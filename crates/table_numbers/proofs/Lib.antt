@@ -1,3 +1,2 @@
--- Laws that the proofs of this crate and of its callers cite.
+-- Laws that the proofs of this crate cite.
 pub mod Laws
-pub mod Next

@@ -1,4 +1,4 @@
--- `openings::add_ppa` meets its contract: each refusal by the tests that led there.
+-- `call_openings::add_ppa` meets its contract: each refusal by the tests that led there.
 use mathlib.Core.Path.{refl}
 use mathlib.Core.List.{[]}
 use denote.Ref.{now}

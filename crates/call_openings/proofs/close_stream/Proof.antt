@@ -1,4 +1,4 @@
--- `openings::close_stream` meets its contract: an open stream is one of the 16.
+-- `call_openings::close_stream` meets its contract: an open stream is one of the 16.
 use mathlib.Core.Path.{sym, _∙_}
 use denote.Ref.{now}
 use borrow.Author.Tests.{not-false}

@@ -1,4 +1,4 @@
--- `openings::open_stream` meets its contract: the count of the free streams tells whether there is a lowest one.
+-- `call_openings::open_stream` meets its contract: the count of the free streams tells whether there is a lowest one.
 use native.Mathlib.Omega.{arith}
 use mathlib.Core.Path.{refl}
 use denote.Ref.{now}

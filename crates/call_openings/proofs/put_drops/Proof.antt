@@ -1,4 +1,4 @@
--- `openings::put_drops` meets its contract: after k turns the goodbyes of the k oldest stand at the room's start.
+-- `call_openings::put_drops` meets its contract: after k turns the goodbyes of the k oldest stand at the room's start.
 use Prim.Native.Nat.{ℕ, _*_, _-_, _≤_}
 use native.Mathlib.Omega.{arith}
 use mathlib.Core.Path.{_≡_, refl, ap, _∙_}

@@ -1,4 +1,4 @@
--- `openings::put_goodbyes` meets its contract: what is written goes by the state.
+-- `call_openings::put_goodbyes` meets its contract: what is written goes by the state.
 use native.Mathlib.Omega.{arith}
 use mathlib.Core.Path.{_≡_, refl, sym, _∙_}
 use mathlib.Core.Bool.{true, false}

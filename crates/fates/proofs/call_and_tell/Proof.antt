@@ -25,7 +25,7 @@ returns c =
     let a = start .args in
     let byte = c .before .before .before .before .before .before .before .before .before .before .before .before .before .before .before .shared-slice-known .given in
     let left = c .before .before .before .before .before .before .before .before .before .before .before .call-sound .ensures in
-    let told = c .before .before .before .before .call-and-tell .ensures in
+    let told = c .before .before .before .before .tell-call .ensures in
     let image = ap (λ (l : Left). l .image) left in
     let entered = told .1 .1 ∙ ap (λ (l : Left). enteredAll (linesBy (now (a .bytes)) l) (now (a .register))) left in (
       (rw (image, entered) (told-next (now (a .table)) (now (a .register)) (now (a .bytes)) (start .pre .0) (λ k. omega (arith, byte k))), image, entered),

@@ -1,4 +1,4 @@
--- `register::clear` meets its contract: what is left to clear leads to the same register.
+-- `fates_register::clear` meets its contract: what is left to clear leads to the same register.
 use native.Mathlib.Omega.{arith}
 use mathlib.Core.Path.{_≡_, refl, sym, ap, _∙_}
 use Prim.Native.Nat.{ℕ, _+_}

@@ -1,4 +1,4 @@
--- `register::close_up` meets its contract: what is left to move leads to the same register.
+-- `fates_register::close_up` meets its contract: what is left to move leads to the same register.
 use native.Mathlib.Omega.{arith}
 use mathlib.Core.Path.{_≡_, refl, sym, ap, _∙_}
 use Prim.Native.Nat.{ℕ, _+_}

@@ -1,4 +1,4 @@
--- `report::open_on_all` meets its contract: the sum so far, and that of the streams that follow.
+-- `fates_report::open_on_all` meets its contract: the sum so far, and that of the streams that follow.
 use Prim.Native.Nat.{_+_, _*_, _-_, _≤_}
 use native.Mathlib.Omega.{arith}
 use mathlib.Core.Path.{_≡_}

@@ -1,4 +1,4 @@
--- `report::put_began` meets its contract: one test.
+-- `fates_report::put_began` meets its contract: one test.
 use native.Mathlib.Omega.{arith}
 use denote.Ref.{now}
 use borrow.Author.Tests.{lt-ltb, le-ltb}

@@ -1,4 +1,4 @@
--- `report::put_closing` meets its contract: the total behind the last openings.
+-- `fates_report::put_closing` meets its contract: the total behind the last openings.
 use denote.Ref.{now}
 use borrow.Author.Needs.{needs}
 use Rattle.text.proofs.Laws.{after}

@@ -1,4 +1,4 @@
--- `report::put_end` meets its contract: one test, then the lines of the open ones and the line of the opening.
+-- `fates_report::put_end` meets its contract: one test, then the lines of the open ones and the line of the opening.
 use Prim.Native.Nat.{_+_, _*_}
 use native.Mathlib.Omega.{arith}
 use denote.Ref.{now}

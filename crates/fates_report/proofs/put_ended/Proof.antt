@@ -1,4 +1,4 @@
--- `report::put_ended` meets its contract: each end has its word.
+-- `fates_report::put_ended` meets its contract: each end has its word.
 use borrow.Author.Needs.{needs}
 use Rattle.fates_report.proofs.put_ended.Statement.{statement}
 use Rattle.fates_report.proofs.put_ended.Tie as tie

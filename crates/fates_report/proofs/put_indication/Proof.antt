@@ -1,4 +1,4 @@
--- `report::put_indication` meets its contract: one piece behind the other.
+-- `fates_report::put_indication` meets its contract: one piece behind the other.
 use Prim.Native.Nat.{_*_, _≤_}
 use native.Mathlib.Omega.{arith}
 use mathlib.Core.List.{[], _∷_, _++_}

@@ -1,4 +1,4 @@
--- `report::put_line` meets its contract: line by line.
+-- `fates_report::put_line` meets its contract: line by line.
 use native.Mathlib.Omega.{arith}
 use denote.Ref.{now}
 use borrow.Author.Needs.{needs}

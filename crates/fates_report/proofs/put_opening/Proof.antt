@@ -1,4 +1,4 @@
--- `report::put_opening` meets its contract: one piece behind the other.
+-- `fates_report::put_opening` meets its contract: one piece behind the other.
 use Prim.Native.Nat.{_*_}
 use mathlib.Core.Path.{_≡_}
 use mathlib.Core.List.{[], _∷_, _++_}

@@ -1,4 +1,4 @@
--- `report::put_spaced` meets its contract: the number behind the blank.
+-- `fates_report::put_spaced` meets its contract: the number behind the blank.
 use native.Mathlib.Omega.{arith}
 use mathlib.Core.List.{[], _∷_}
 use denote.Ref.{now}

@@ -1,4 +1,4 @@
--- `report::put_total` meets its contract: one piece behind the other.
+-- `fates_report::put_total` meets its contract: one piece behind the other.
 use mathlib.Core.List.{[], _∷_, _++_}
 use denote.Ref.{now}
 use borrow.Author.Needs.{needs}

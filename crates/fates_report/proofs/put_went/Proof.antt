@@ -1,4 +1,4 @@
--- `report::put_went` meets its contract: one test after another.
+-- `fates_report::put_went` meets its contract: one test after another.
 use native.Mathlib.Omega.{arith}
 use denote.Ref.{now}
 use borrow.Author.Tests.{lt-ltb, le-ltb}

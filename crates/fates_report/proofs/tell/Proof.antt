@@ -1,4 +1,4 @@
--- `report::tell` meets its contract: the text of the register as it was, then the entry.
+-- `fates_report::tell` meets its contract: the text of the register as it was, then the entry.
 use borrow.Author.Needs.{needs}
 use Rattle.fates_report.proofs.tell.Statement.{statement}
 use Rattle.fates_report.proofs.tell.Tie as tie

@@ -1,4 +1,4 @@
--- `report::tell_call` meets its contract: the lines of the records behind that of the opening.
+-- `fates_report::tell_call` meets its contract: the lines of the records behind that of the opening.
 use Prim.Native.Nat.{_/_, _%_}
 use native.Mathlib.Omega.{arith}
 use denote.Ref.{now}

@@ -1,4 +1,4 @@
--- `report::tell_opening` meets its contract: the line of the opening, or none.
+-- `fates_report::tell_opening` meets its contract: the line of the opening, or none.
 use native.Mathlib.Omega.{arith}
 use mathlib.Core.Path.{refl}
 use denote.Ref.{now}

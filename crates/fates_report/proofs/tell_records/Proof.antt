@@ -1,4 +1,4 @@
--- `report::tell_records` meets its contract: what is still to be told leads, from where it is, to the same text and register.
+-- `fates_report::tell_records` meets its contract: what is still to be told leads, from where it is, to the same text and register.
 use Prim.Native.Nat.{_+_, _*_, _-_, _≤_}
 use native.Mathlib.Omega.{arith}
 use mathlib.Core.Path.{_≡_, refl, ap, _∙_}

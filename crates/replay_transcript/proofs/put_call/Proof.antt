@@ -1,4 +1,4 @@
--- `transcript::put_call` meets its contract: one test after another.
+-- `replay_transcript::put_call` meets its contract: one test after another.
 use Prim.Native.Nat.{_%_}
 use native.Mathlib.Omega.{arith}
 use denote.Ref.{now}

@@ -1,4 +1,4 @@
--- `transcript::put_ok` meets its contract: the word behind the number.
+-- `replay_transcript::put_ok` meets its contract: the word behind the number.
 use native.Mathlib.Omega.{arith}
 use mathlib.Core.List.{[], _∷_, _++_}
 use denote.Ref.{now}

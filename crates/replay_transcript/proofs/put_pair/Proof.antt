@@ -1,4 +1,4 @@
--- `transcript::put_pair` meets its contract: number, word and number one behind the other.
+-- `replay_transcript::put_pair` meets its contract: number, word and number one behind the other.
 use native.Mathlib.Omega.{arith}
 use mathlib.Core.List.{_++_}
 use denote.Ref.{now}

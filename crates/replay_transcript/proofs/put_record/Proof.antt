@@ -1,4 +1,4 @@
--- `transcript::put_record` meets its contract: the fields behind the pair, then the line's end.
+-- `replay_transcript::put_record` meets its contract: the fields behind the pair, then the line's end.
 use Prim.Native.Nat.{ℕ, _+_, _≤_}
 use native.Mathlib.Omega.{arith}
 use mathlib.Core.List.{List, [], _∷_, _++_}

@@ -1,4 +1,4 @@
--- `transcript::put_records` meets its contract: what is still to be written leads, from where it is, to the same text.
+-- `replay_transcript::put_records` meets its contract: what is still to be written leads, from where it is, to the same text.
 use Prim.Native.Nat.{ℕ, zero, suc, _+_, _*_, _-_, _≤_, _<_}
 use native.Mathlib.Omega.{arith}
 use mathlib.Core.List.{List, [], _++_}

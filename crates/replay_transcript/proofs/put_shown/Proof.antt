@@ -1,4 +1,4 @@
--- `transcript::put_shown` meets its contract: nothing, or a space and the digits.
+-- `replay_transcript::put_shown` meets its contract: nothing, or a space and the digits.
 use native.Mathlib.Omega.{arith}
 use mathlib.Core.List.{[], _∷_}
 use denote.Ref.{now}

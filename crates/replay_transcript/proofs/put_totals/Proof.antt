@@ -1,4 +1,4 @@
--- `transcript::put_totals` meets its contract: the end of the line behind the pair.
+-- `replay_transcript::put_totals` meets its contract: the end of the line behind the pair.
 use native.Mathlib.Omega.{arith}
 use mathlib.Core.List.{[], _∷_, _++_}
 use denote.Ref.{now}

@@ -1,4 +1,4 @@
--- `transcript::shown` meets its contract.
+-- `replay_transcript::shown` meets its contract.
 use native.Mathlib.Omega.{arith}
 use borrow.Author.Needs.{needs}
 use Rattle.ledger.specs.Choice.{_⇒_∣_}

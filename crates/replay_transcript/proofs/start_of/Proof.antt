@@ -1,4 +1,4 @@
--- `transcript::start_of` meets its contract.
+-- `replay_transcript::start_of` meets its contract.
 use Prim.Native.Nat.{_-_}
 use native.Mathlib.Omega.{arith}
 use mathlib.Core.Path.{sym, _∙_}

@@ -1,4 +1,4 @@
--- `image::ppa_at` meets its contract: the bytes of a slot are bytes of the image.
+-- `table_image::ppa_at` meets its contract: the bytes of a slot are bytes of the image.
 use Prim.Native.Nat.{ℕ, _+_}
 use mathlib.Core.Path.{refl, sym, ap, _∙_}
 use native.Mathlib.Omega.{arith}

@@ -1,4 +1,4 @@
--- `image::sap_at` meets its contract: the bytes of a slot are bytes of the image.
+-- `table_image::sap_at` meets its contract: the bytes of a slot are bytes of the image.
 use Prim.Native.Nat.{_+_}
 use mathlib.Core.Path.{refl, sym, ap, _∙_}
 use native.Mathlib.Omega.{arith}

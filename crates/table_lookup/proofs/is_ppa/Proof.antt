@@ -1,4 +1,4 @@
--- `lookup::is_ppa` meets its contract: the first four bytes of a place are its number.
+-- `table_lookup::is_ppa` meets its contract: the first four bytes of a place are its number.
 use native.Mathlib.Nat.{add-sub-cancel-left}
 use denote.Ref.{now}
 use borrow.Author.Needs.{needs}

@@ -1,13 +1,13 @@
--- `lookup::listener` meets its contract: no stream before i listens.
+-- `table_lookup::listener` meets its contract: no stream before i listens.
 use Prim.Native.Nat.{_≤_, _-_}
 use native.Mathlib.Omega.{arith}
 use mathlib.Core.Path.{sym, _∙_}
 use denote.Ref.{now}
 use borrow.Author.Needs.{needs}
+use Rattle.ledger.proofs.Searches.{first-hit, first-miss, first-end}
 use Rattle.paper.specs.Base.{Slot, closed}
 use Rattle.paper.specs.Saps.{listens, listener}
 use Rattle.table_image.specs.Layout.{tableOf}
-use Rattle.table_lookup.proofs.Laws.{first-hit, first-miss, first-end}
 use Rattle.table_lookup.proofs.listener.Statement.{statement}
 use Rattle.table_lookup.proofs.listener.Tie as tie
 

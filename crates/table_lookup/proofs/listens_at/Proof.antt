@@ -1,4 +1,4 @@
--- `lookup::listens_at` meets its contract: the three tests, that of the SAP first.
+-- `table_lookup::listens_at` meets its contract: the three tests, that of the SAP first.
 use native.Mathlib.Omega.{arith}
 use borrow.Author.Needs.{needs}
 use borrow.Author.Tests.{lt-ltb, eq-eqb, ne-eqb}

@@ -1,4 +1,4 @@
--- `lookup::ppa_place` meets its contract: no PPA before place i has the number.
+-- `table_lookup::ppa_place` meets its contract: no PPA before place i has the number.
 use Prim.Native.Nat.{_≤_, _-_}
 use native.Mathlib.Omega.{arith}
 use mathlib.Core.Path.{sym, _∙_}
@@ -6,10 +6,10 @@ use denote.Ref.{now}
 use lib.Dec.{eqb}
 use borrow.Author.Needs.{needs}
 use Rattle.ledger.specs.Tally.{firstOf}
+use Rattle.ledger.proofs.Searches.{first-hit, first-miss, first-end}
 use Rattle.paper.specs.Base.{noPpa}
 use Rattle.paper.specs.declared.Ppa.{Ppa}
 use Rattle.table_image.specs.Layout.{tableOf}
-use Rattle.table_lookup.proofs.Laws.{first-hit, first-miss, first-end}
 use Rattle.table_lookup.proofs.ppa_place.Statement.{statement}
 use Rattle.table_lookup.proofs.ppa_place.Tie as tie
 

@@ -1,13 +1,13 @@
--- `calls::next_number` meets its contract: what is left to try gives the answer.
+-- `table_numbers::next_number` meets its contract: what is left to try gives the answer.
 use Prim.Native.Nat.{ℕ, _≤_, _-_}
 use native.Mathlib.Omega.{arith}
 use mathlib.Core.Path.{_≡_, sym, ap, _∙_}
 use borrow.Author.Needs.{needs}
 use denote.Ref.{now}
 use Rattle.ledger.specs.Tally.{nextFrom}
+use Rattle.ledger.proofs.Found.{next-here, next-on}
 use Rattle.paper.specs.Correlations.{occurrences, nextNumber}
 use Rattle.table_image.specs.Layout.{tableOf}
-use Rattle.table_numbers.proofs.Next.{next-here, next-on}
 use Rattle.table_numbers.proofs.next_number.Statement.{statement}
 use Rattle.table_numbers.proofs.next_number.Tie as tie
 

@@ -1,4 +1,4 @@
--- `calls::number_at` meets its contract: a stream has at most 8 open numbers.
+-- `table_numbers::number_at` meets its contract: a stream has at most 8 open numbers.
 use Prim.Native.Nat.{ℕ, _<_}
 use native.Mathlib.Omega.{arith}
 use mathlib.Core.Path.{ap, _∙_}

@@ -1,52 +1,49 @@
--- `calls::number_place` meets its contract: after k turns the number is at none of the first k places.
-use Prim.Native.Nat.{_+_, _≤_, _-_}
+-- `table_numbers::number_place` meets its contract: no open number before place k is the one sought.
+use Prim.Native.Nat.{_≤_, _-_}
 use native.Mathlib.Omega.{arith}
-use mathlib.Core.Path.{_≡_, sym, ap, _∙_}
+use mathlib.Core.Path.{sym, ap, _∙_}
 use lib.Dec.{eqb}
-use lib.ListN.{drop, drop-of-length-le}
 use borrow.Author.Tests.{eq-eqb, ne-eqb}
 use borrow.Author.Needs.{needs}
 use denote.Ref.{now}
 use Rattle.ledger.specs.Tally.{firstOf}
+use Rattle.ledger.proofs.Searches.{first-hit, first-miss, first-end}
 use Rattle.paper.specs.declared.Correlation.{Correlation}
 use Rattle.paper.specs.Base.{waiting}
 use Rattle.table_image.specs.Layout.{tableOf}
-use Rattle.table_numbers.proofs.Laws.{first-here, first-next}
 use Rattle.table_numbers.proofs.number_place.Statement.{statement}
 use Rattle.table_numbers.proofs.number_place.Tie as tie
 
 abbrev Inv-loop : tie.InvT-loop
-Inv-loop img i n count k₀ k = (k ≤ count) × (firstOf (eqb (n .0)) (waiting (tableOf img) i) ≡ k + firstOf (eqb (n .0)) (drop k (waiting (tableOf img) i)))
+Inv-loop img i n count k₀ k = (k ≤ count) × (k ≤ firstOf (eqb (n .0)) (waiting (tableOf img) i))
 
 abbrev μ-loop : tie.MeasureT-loop
 μ-loop img i n count k₀ k = count - k
 
 loop-holds : tie.Need-loop-holds Inv-loop μ-loop
-loop-holds c = (search needs, omega arith)
+loop-holds c = (omega arith, omega arith)
 
 returns : tie.Need-returns Inv-loop μ-loop
 returns c =
     let l = c .before .before .before .before .before in
     let a = l .before .before .before .args in
     let e = c .if1 .taken ∙ ap (λ (q : Correlation). q .0) (c .before .before .before .number-at .ensures) in
-    sym (l .loop .inv .1 ∙ first-here (a .n .0) (waiting (tableOf (now (a .img))) (a .i)) (l .loop .k) (omega arith) (eq-eqb _ _ e))
+    first-hit (eqb (a .n .0)) 0 (waiting (tableOf (now (a .img))) (a .i)) (l .loop .k) (omega arith) (l .loop .inv .1) (eq-eqb _ _ e)
 
 loop-again : tie.Need-loop-again Inv-loop μ-loop
 loop-again c =
     let l = c .before .before .before .before .before in
     let a = l .before .before .before .args in
-    let e = ap (λ (q : Correlation). q .0) (c .before .before .before .number-at .ensures) in (
-      omega arith,
-      l .loop .inv .1
-          ∙ first-next (a .n .0) (waiting (tableOf (now (a .img))) (a .i)) (l .loop .k) (omega arith) (ne-eqb _ _ (λ d. c .if1 .left (d ∙ sym e))),
-    )
+    let e = ap (λ (q : Correlation). q .0) (c .before .before .before .number-at .ensures) in
+    let m = first-miss (eqb (a .n .0)) 0 (waiting (tableOf (now (a .img))) (a .i)) (l .loop .k)
+    (omega arith) (l .loop .inv .1) (ne-eqb _ _ (λ d. c .if1 .left (d ∙ sym e))) in
+    (omega arith, omega (arith, m))
 
 returns-2 : tie.Need-returns-2 Inv-loop μ-loop
 returns-2 c =
     let l = c .before in
     let a = l .before .before .before .args in
-    let w = waiting (tableOf (now (a .img))) (a .i) in
-    omega (arith, l .loop .inv .1, ap (firstOf (eqb (a .n .0))) (drop-of-length-le w {i = l .loop .k} (omega arith)))
+    omega (arith, l .loop .inv .1, first-end (eqb (a .n .0)) (waiting (tableOf (now (a .img))) (a .i)))
 
 pub number-place-spec : {M : Type 1} → statement M
 number-place-spec =

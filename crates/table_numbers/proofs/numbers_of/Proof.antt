@@ -1,4 +1,4 @@
--- `calls::numbers_of` meets its contract: the slot's last 33 bytes go over all of the array.
+-- `table_numbers::numbers_of` meets its contract: the slot's last 33 bytes go over all of the array.
 use mathlib.Core.Path.{_≡_}
 use native.Mathlib.Omega.{arith}
 use native.Mathlib.Nat.{add-sub-cancel-left}

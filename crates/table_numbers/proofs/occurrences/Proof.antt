@@ -1,4 +1,4 @@
--- `calls::occurrences` meets its contract: after i turns the first i streams are counted.
+-- `table_numbers::occurrences` meets its contract: after i turns the first i streams are counted.
 use Prim.Native.Nat.{ℕ, _+_, _*_, _≤_, _-_}
 use native.Mathlib.Omega.{arith}
 use native.Mathlib.Numerals.{add-one}

@@ -1,4 +1,4 @@
--- `calls::occurs_on` meets its contract: after k turns the first k places are counted.
+-- `table_numbers::occurs_on` meets its contract: after k turns the first k places are counted.
 use Prim.Native.Nat.{_+_, _≤_, _-_}
 use native.Mathlib.Omega.{arith}
 use native.Mathlib.Numerals.{add-one}

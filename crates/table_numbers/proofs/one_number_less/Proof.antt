@@ -1,4 +1,4 @@
--- `calls::one_number_less` meets its contract: what stands around the number is joined, and zeros stay behind it.
+-- `table_numbers::one_number_less` meets its contract: what stands around the number is joined, and zeros stay behind it.
 use mathlib.Core.Path.{_≡_}
 use Prim.Native.Nat.{_<_}
 use native.Mathlib.Omega.{arith}

@@ -1,4 +1,4 @@
--- `calls::one_number_more` meets its contract: the number goes over the first zeros.
+-- `table_numbers::one_number_more` meets its contract: the number goes over the first zeros.
 use borrow.Author.Needs.{needs}
 use denote.Ref.{now}
 use Rattle.paper.specs.Base.{waiting}

@@ -1,4 +1,4 @@
--- `calls::open_numbers` meets its contract: after i turns the numbers of the first i streams stand at the start of dst.
+-- `table_numbers::open_numbers` meets its contract: after i turns the numbers of the first i streams stand at the start of dst.
 use Prim.Native.Nat.{ℕ, _+_, _*_, _≤_, _-_}
 use native.Mathlib.Omega.{arith}
 use mathlib.Core.Path.{_≡_, refl, sym, ap, _∙_}

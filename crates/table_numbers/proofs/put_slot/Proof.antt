@@ -1,4 +1,4 @@
--- `calls::put_slot` meets its contract: two runs, one behind the other, are one.
+-- `table_numbers::put_slot` meets its contract: two runs, one behind the other, are one.
 use Prim.Native.Nat.{_+_}
 use native.Mathlib.Omega.{arith}
 use mathlib.Core.Path.{_≡_, sym}

@@ -1,4 +1,4 @@
--- `calls::remaining` meets its contract: one number fewer where it is open.
+-- `table_numbers::remaining` meets its contract: one number fewer where it is open.
 use Prim.Native.Nat.{suc, ℕ}
 use native.Mathlib.Omega.{arith}
 use mathlib.Core.Bool.{true}

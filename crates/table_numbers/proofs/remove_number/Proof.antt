@@ -1,6 +1,6 @@
 use Prim.Native.Nat.{_<_, _≤_}
 use native.Mathlib.Omega.{arith}
-use mathlib.Core.Path.{sym, _∙_}
+use mathlib.Core.Path.{_∙_}
 use lib.Dec.{eqb}
 use lib.ListN.{length}
 use borrow.Author.Tests.{le-ltb}
@@ -8,9 +8,10 @@ use borrow.Author.Needs.{needs}
 use denote.Ref.{now}
 use Rattle.ledger.specs.Tally.{without, firstOf}
 use Rattle.ledger.proofs.Tallies.{length-without-le}
+use Rattle.ledger.proofs.Searches.{has-first}
 use Rattle.paper.specs.Base.{withStream, waiting}
 use Rattle.table_image.specs.Layout.{tableOf}
-use Rattle.table_numbers.proofs.Laws.{calls-stored, has-first, without-none, without-first}
+use Rattle.table_numbers.proofs.Laws.{calls-stored, without-none, without-first}
 use Rattle.table_numbers.proofs.remove_number.Statement.{statement}
 use Rattle.table_numbers.proofs.remove_number.Tie as tie
 
@@ -32,7 +33,7 @@ returns-2 c =
     let w = waiting (tableOf (now (a .img))) (a .i) in
     let n = a .n .0 in
     let h : length w ≤ firstOf (eqb n) w = omega (arith, c .before .before .before .before .before .number-place .ensures, c .before .before .before .before .before .before .before .count-at .ensures) in
-    rw (c .before .before .store-stream .ensures, without-none n w (sym (has-first n w) ∙ le-ltb _ _ h))
+    rw (c .before .before .store-stream .ensures, without-none n w (has-first n w ∙ le-ltb _ _ h))
 
 pub remove-number-spec : {M : Type 1} → statement M
 remove-number-spec =

@@ -1,4 +1,4 @@
--- `soundness::are_numbers_single` meets its contract: the numbers that are copied are those that are open.
+-- `table_soundness::are_numbers_single` meets its contract: the numbers that are copied are those that are open.
 use native.Mathlib.Nat.{sub-zero}
 use mathlib.Core.Path.{ap}
 use borrow.Author.Needs.{needs}

@@ -1,4 +1,4 @@
--- `soundness::are_single` meets its contract: after k turns the first k numbers have passed.
+-- `table_soundness::are_single` meets its contract: after k turns the first k numbers have passed.
 use Prim.Native.Nat.{_-_}
 use mathlib.Core.Path.{refl}
 use lib.ListN.{length}

@@ -1,4 +1,4 @@
--- `soundness::is_single` meets its contract: the two tests in their order.
+-- `table_soundness::is_single` meets its contract: the two tests in their order.
 use native.Mathlib.Omega.{arith}
 use borrow.Author.Needs.{needs}
 use borrow.Author.Tests.{lt-ltb, le-ltb}

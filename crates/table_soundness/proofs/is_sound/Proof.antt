@@ -1,4 +1,4 @@
--- `soundness::is_sound` meets its contract: the clauses in their groups, in the order in which they are tested.
+-- `table_soundness::is_sound` meets its contract: the clauses in their groups, in the order in which they are tested.
 use borrow.Author.Needs.{needs}
 use denote.Ref.{now}
 use Rattle.table_image.specs.Layout.{tableOf}

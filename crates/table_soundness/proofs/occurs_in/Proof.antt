@@ -1,4 +1,4 @@
--- `soundness::occurs_in` meets its contract: after k turns the first k numbers are counted.
+-- `table_soundness::occurs_in` meets its contract: after k turns the first k numbers are counted.
 use Prim.Native.Nat.{ℕ, _-_, _≤_, _<_}
 use native.Mathlib.Omega.{arith}
 use mathlib.Core.Path.{sym, _∙_}

@@ -1,4 +1,4 @@
--- `soundness::ppa_number` meets its contract: a table has at most 8 PPAs, so the number's bytes are there.
+-- `table_soundness::ppa_number` meets its contract: a table has at most 8 PPAs, so the number's bytes are there.
 use Prim.Native.Nat.{_+_, _*_, _≤_}
 use native.Mathlib.Omega.{arith}
 use mathlib.Core.Path.{_∙_}

@@ -1,4 +1,4 @@
--- `messages::asked_by` meets its contract: the code names the primitive, and each is read by its own rule.
+-- `wire_messages::asked_by` meets its contract: the code names the primitive, and each is read by its own rule.
 use Rattle.paper.specs.Messages.{askedBy}
 use borrow.Author.Needs.{needs}
 use Rattle.wire_messages.proofs.asked_by.Statement.{statement}

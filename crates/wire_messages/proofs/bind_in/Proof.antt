@@ -1,4 +1,4 @@
--- `messages::bind_in` meets its contract: the fields are read, then the size is tested.
+-- `wire_messages::bind_in` meets its contract: the fields are read, then the size is tested.
 use borrow.Author.Needs.{needs}
 use Rattle.wire_messages.proofs.bind_in.Statement.{statement}
 use Rattle.wire_messages.proofs.bind_in.Tie as tie

@@ -1,4 +1,4 @@
--- `messages::of_size` meets its contract: the length decides.
+-- `wire_messages::of_size` meets its contract: the length decides.
 use borrow.Author.Tests.{lt-ltb, le-ltb}
 use Rattle.ledger.specs.Choice.{_⇒_∣_}
 use Rattle.paper.specs.Messages.{sized}

@@ -1,4 +1,4 @@
--- `messages::other_code` meets its contract: each code of step 1 stands in the list, and no other.
+-- `wire_messages::other_code` meets its contract: each code of step 1 stands in the list, and no other.
 use borrow.Author.Tests.{ne-eqb}
 use Rattle.ledger.specs.Choice.{_⇒_∣_}
 use Rattle.paper.specs.Messages.{otherCode}

@@ -1,4 +1,4 @@
--- `messages::primitive_of` meets its contract: each code stands in the list at its place.
+-- `wire_messages::primitive_of` meets its contract: each code stands in the list at its place.
 use borrow.Author.Tests.{ne-eqb}
 use Rattle.ledger.specs.Choice.{_⇒_∣_}
 use Rattle.paper.specs.Messages.{primitiveOf}

@@ -1,4 +1,4 @@
--- `records::has_nonzero_padding` meets its contract: from past L to the end of the block are 96 - L bytes.
+-- `wire_records::has_nonzero_padding` meets its contract: from past L to the end of the block are 96 - L bytes.
 use borrow.Author.Tests.{lt-leb, le-leb}
 use native.Mathlib.Omega.{arith}
 use mathlib.Core.Path.{_≡_, ap}

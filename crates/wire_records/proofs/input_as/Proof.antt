@@ -1,4 +1,4 @@
--- `records::input_as` meets its contract, an arm for each kind: a whole message has the 99 bytes that its padding test asks for.
+-- `wire_records::input_as` meets its contract, an arm for each kind: a whole message has the 99 bytes that its padding test asks for.
 use borrow.Author.Needs.{needs}
 use Rattle.wire_records.proofs.input_as.Statement.{statement}
 use Rattle.wire_records.proofs.input_as.Tie as tie

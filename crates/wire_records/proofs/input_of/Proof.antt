@@ -1,4 +1,4 @@
--- `records::input_of` meets its contract: a record that has a size is whole, so its values can be read.
+-- `wire_records::input_of` meets its contract: a record that has a size is whole, so its values can be read.
 use borrow.Author.Tests.{eq-eqb, ne-eqb}
 use mathlib.Core.Path.{_∙_}
 use Rattle.ledger.specs.Choice.{_⇒_∣_}

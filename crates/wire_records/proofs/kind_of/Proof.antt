@@ -1,4 +1,4 @@
--- `records::kind_of` meets its contract: each letter stands in the list at its place.
+-- `wire_records::kind_of` meets its contract: each letter stands in the list at its place.
 use borrow.Author.Tests.{ne-eqb}
 use Rattle.ledger.specs.Choice.{_⇒_∣_}
 use Rattle.paper.specs.RecordsIn.{kindOf}

@@ -1,4 +1,4 @@
--- `records::message_in` meets its contract: the padding decides.
+-- `wire_records::message_in` meets its contract: the padding decides.
 use Rattle.ledger.specs.Choice.{_⇒_∣_}
 use borrow.Author.Needs.{needs}
 use Rattle.wire_records.proofs.message_in.Statement.{statement}

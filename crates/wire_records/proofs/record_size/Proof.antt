@@ -1,4 +1,4 @@
--- `records::record_size` meets its contract: the size is compared with what is there.
+-- `wire_records::record_size` meets its contract: the size is compared with what is there.
 use borrow.Author.Tests.{lt-leb, le-leb}
 use Rattle.ledger.specs.Choice.{_⇒_∣_}
 use Rattle.paper.specs.RecordsIn.{recordSize}

@@ -1,4 +1,4 @@
--- `replies::put_accept` meets its contract: the number goes behind the start.
+-- `wire_replies::put_accept` meets its contract: the number goes behind the start.
 use borrow.Author.Needs.{needs}
 use denote.Ref.{now}
 use mathlib.Core.Path.{refl, sym, _∙_}

@@ -1,4 +1,4 @@
--- `replies::put_address` meets its contract: the bytes of the SAP go behind the MAC.
+-- `wire_replies::put_address` meets its contract: the bytes of the SAP go behind the MAC.
 use borrow.Author.Needs.{needs}
 use denote.Ref.{now}
 use Prim.Native.Nat.{ℕ, _+_, _≤_}

@@ -1,4 +1,4 @@
--- `replies::put_bind_ack` meets its contract: the tail is the address.
+-- `wire_replies::put_bind_ack` meets its contract: the tail is the address.
 use borrow.Author.Needs.{needs}
 use denote.Ref.{now}
 use Prim.Native.Nat.{ℕ, _-_}

@@ -1,4 +1,4 @@
--- `replies::put_bound` meets its contract: six fields as one message, the count granted in four bytes.
+-- `wire_replies::put_bound` meets its contract: six fields as one message, the count granted in four bytes.
 use borrow.Author.Needs.{needs}
 use denote.Ref.{now}
 use Prim.Native.Nat.{ℕ, _+_}

@@ -1,4 +1,4 @@
--- `replies::put_bound_address` meets its contract: an address, or nothing.
+-- `wire_replies::put_bound_address` meets its contract: an address, or nothing.
 use borrow.Author.Needs.{needs}
 use native.Mathlib.Omega.{arith}
 use mathlib.Core.Path.{refl, sym, _∙_}

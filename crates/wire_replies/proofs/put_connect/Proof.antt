@@ -1,4 +1,4 @@
--- `replies::put_connect` meets its contract: the address goes behind the start.
+-- `wire_replies::put_connect` meets its contract: the address goes behind the start.
 use borrow.Author.Needs.{needs}
 use denote.Ref.{now}
 use native.Mathlib.Omega.{arith}

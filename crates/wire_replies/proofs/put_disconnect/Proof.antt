@@ -1,4 +1,4 @@
--- `replies::put_disconnect` meets its contract: the two numbers go behind the start, one behind the other.
+-- `wire_replies::put_disconnect` meets its contract: the two numbers go behind the start, one behind the other.
 use borrow.Author.Needs.{needs}
 use denote.Ref.{now}
 use native.Mathlib.Omega.{arith}

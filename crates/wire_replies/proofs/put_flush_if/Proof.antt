@@ -1,4 +1,4 @@
--- `replies::put_flush_if` meets its contract: with a flush due, the start alone; without, nothing.
+-- `wire_replies::put_flush_if` meets its contract: with a flush due, the start alone; without, nothing.
 use borrow.Author.Needs.{needs}
 use native.Mathlib.Omega.{arith}
 use Rattle.wire_replies.proofs.put_flush_if.Statement.{statement}

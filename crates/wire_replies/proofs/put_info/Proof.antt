@@ -1,4 +1,4 @@
--- `replies::put_info` meets its contract: unbound and bound, the fields are those of `infoOf`.
+-- `wire_replies::put_info` meets its contract: unbound and bound, the fields are those of `infoOf`.
 use borrow.Author.Needs.{needs}
 use denote.Ref.{now}
 use Prim.Native.Nat.{ℕ, _+_, _-_, _^_}

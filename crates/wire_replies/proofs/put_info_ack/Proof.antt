@@ -1,4 +1,4 @@
--- `replies::put_info_ack` meets its contract: what stands before the end of the tail is the address, then six of the bytes that filled it.
+-- `wire_replies::put_info_ack` meets its contract: what stands before the end of the tail is the address, then six of the bytes that filled it.
 use borrow.Author.Needs.{needs}
 use denote.Ref.{now}
 use Prim.Native.Nat.{ℕ, _+_, _-_}

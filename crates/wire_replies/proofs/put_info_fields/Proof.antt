@@ -1,4 +1,4 @@
--- `replies::put_info_fields` meets its contract: the nineteen fields as one message, state and mode in four bytes each.
+-- `wire_replies::put_info_fields` meets its contract: the nineteen fields as one message, state and mode in four bytes each.
 use borrow.Author.Needs.{needs}
 use denote.Ref.{now}
 use Prim.Native.Nat.{ℕ}

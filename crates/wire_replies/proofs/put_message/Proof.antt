@@ -1,4 +1,4 @@
--- `replies::put_message` meets its contract: the block goes behind the three bytes before it.
+-- `wire_replies::put_message` meets its contract: the block goes behind the three bytes before it.
 use borrow.Author.Needs.{needs}
 use denote.Ref.{now}
 use Prim.Native.Nat.{ℕ}

@@ -1,4 +1,4 @@
--- `replies::put_order` meets its contract: each order is written by its own function.
+-- `wire_replies::put_order` meets its contract: each order is written by its own function.
 use borrow.Author.Needs.{needs}
 use native.Mathlib.Omega.{arith}
 use Rattle.wire_replies.proofs.put_order.Statement.{statement}

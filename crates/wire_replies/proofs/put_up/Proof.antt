@@ -1,4 +1,4 @@
--- `replies::put_up` meets its contract: each reply is one message with its own fields.
+-- `wire_replies::put_up` meets its contract: each reply is one message with its own fields.
 use borrow.Author.Needs.{needs}
 use Rattle.paper.specs.Replies.{contentOf}
 use denote.Ref.{now}

@@ -1,4 +1,4 @@
--- `replies::sap_length` meets its contract: one case for each side of 256.
+-- `wire_replies::sap_length` meets its contract: one case for each side of 256.
 use native.Mathlib.Omega.{arith}
 use mathlib.Core.Path.{refl}
 use borrow.Author.Tests.{lt-ltb, le-ltb}
