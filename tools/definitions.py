@@ -149,7 +149,8 @@ def write_crate(claims):
         (crate / part).mkdir(parents=True, exist_ok=True)
     for name in BELOW:
         link = HERE / "crates" / name
-        if not link.is_symlink():
+        if not link.is_symlink() or link.readlink() != TOP / "crates" / name:
+            link.unlink(missing_ok=True)
             link.symlink_to(TOP / "crates" / name)
     lines = [line for line in (TOP / "crates.txt").read_text().splitlines() if line.split(":")[0] in BELOW]
     (HERE / "crates.txt").write_text("\n".join(lines + ["replayed: " + " ".join(BELOW)]) + "\n")

@@ -1,4 +1,7 @@
 pub mod Examples
+pub mod Counter
+pub mod SoundClauses
+pub mod RefusalOrder
 pub mod Records
 pub mod Sizes
 pub mod StateNumbers
