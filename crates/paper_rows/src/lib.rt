@@ -4,7 +4,7 @@ ghost use mathlib.Core.Path.{_≡_};
 ghost use mathlib.Core.List.{[], _∷_, map};
 ghost use Prim.Native.Nat.{ℕ};
 ghost use Rattle.paper.specs.StateRows.{stays, seats, stateRows, foundIn, found};
-ghost use Rattle.paper_rows.specs.Ways.{along};
+ghost use Rattle.paper_rows.specs.Courses.{along};
 use paper::Found;
 use paper::StateRow;
 use paper::Stream;
@@ -78,7 +78,7 @@ fn stays(state: u8, mode: u8) -> Course
 }
 
 // The one row that a cause can have in a state and a mode. (The last of several stands for every other state: it is tested.)
-fn way_of(state: u8, mode: u8, cause: u8) -> Course
+fn course_of(state: u8, mode: u8, cause: u8) -> Course
     ensures { λ r. ⌜ along r state mode cause ≡ foundIn stateRows state mode cause ⌝ }
 {
     match cause {
@@ -151,8 +151,8 @@ pub fn row_for(s: Stream, cause: u8) -> Found
 {
     let q = s.state;
     let state = paper::number_of(q);
-    let way = way_of(state, s.mode, cause);
-    match way {
+    let course = course_of(state, s.mode, cause);
+    match course {
         Course::Leads(mode, from, to) => {
             let x = StateRow {
                 from,

@@ -2,8 +2,8 @@ use borrow.Author.Needs.{needs}
 use Rattle.paper.specs.StateRows.{infoReq, bindReq, unbindReq, attachReq, detachReq, connectReq, connectRes, tokenReq, disconnectReq, resetReq, resetRes, callArrives, peerAccepted, peerGone, callWithdrawn, peerReset, resetConfirmed}
 use Rattle.paper_rows.proofs.Laws.{other}
 use Rattle.ledger.proofs.Tallies.{both-none}
-use Rattle.paper_rows.proofs.way_of.Statement.{statement}
-use Rattle.paper_rows.proofs.way_of.Tie as tie
+use Rattle.paper_rows.proofs.course_of.Statement.{statement}
+use Rattle.paper_rows.proofs.course_of.Tie as tie
 
 returns : tie.Need-returns
 returns c = simp (both-none, c .if1 .taken, c .before .match .keys6)
@@ -105,8 +105,8 @@ returns-27 c =
       other resetConfirmed _ (c .match .rest .1),
     )
 
-pub way-of-spec : {M : Type 1} → statement M
-way-of-spec =
+pub course-of-spec : {M : Type 1} → statement M
+course-of-spec =
     tie.close
     (tie.spec
     (λ c κs. search needs)
