@@ -6,11 +6,11 @@ use Rattle.paper_rows.proofs.row_for.Tie as tie
 
 returns : tie.Need-returns
 unfolding found
-returns c = c .row-in .ensures ∙ rw (← c .before .before .before .before .before .number-of .ensures, ← c .before .before .before .before .course-of .ensures, c .before .before .way .given .1)
+returns c = c .row-in .ensures ∙ rw (← c .before .before .before .before .before .number-of .ensures, ← c .before .before .before .before .course-of .ensures, c .before .before .course .given .1)
 
 returns-2 : tie.Need-returns-2
 unfolding found
-returns-2 c = c .row-in2 .ensures ∙ rw (← c .before .before .before .before .before .number-of .ensures, ← c .before .before .before .before .course-of .ensures, c .before .before .way2 .given .1)
+returns-2 c = c .row-in2 .ensures ∙ rw (← c .before .before .before .before .before .number-of .ensures, ← c .before .before .before .before .course-of .ensures, c .before .before .course2 .given .1)
 
 returns-3 : tie.Need-returns-3
 unfolding found
