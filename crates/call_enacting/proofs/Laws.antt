@@ -5,22 +5,19 @@ use native.Mathlib.Omega.{arith}
 use mathlib.Core.Path.{_≡_, refl, sym, ap, _∙_}
 use mathlib.Core.Bool.{true}
 use mathlib.Core.List.{List, [], _∷_, _++_}
-use lib.ListN.{length, length-append, replicate}
+use lib.ListN.{length, length-append}
 use lib.Seq.{set-out}
-use lib.Dec.{ltb}
 use types.Run.{OneOf, miss}
 use denote.Enum.Declared.{tagOf}
-use Rattle.ledger.specs.Choice.{pick}
 use Rattle.ledger.specs.Tally.{without}
-use Rattle.ledger.proofs.Tallies.{length-without-le, picked}
+use Rattle.ledger.proofs.Tallies.{length-without-le}
 use Rattle.octets.specs.Runs.{part, over}
 use Rattle.paper.proofs.LineOrder as the-order
 use Rattle.paper.proofs.Reply as the-reply
-use Rattle.paper.specs.Base.{isAmong, toldStates, settled, Slot, Table, waiting, withSlot, withNumbers, withStream, withCounter}
+use Rattle.paper.specs.Base.{settled, Slot, Table, waiting, withSlot, withNumbers, withStream, withCounter}
 use Rattle.paper.specs.Correlations.{onePast}
 use Rattle.paper.specs.RecordsIn.{calledIn, callingIn}
 use Rattle.paper.specs.RecordsOut.{Record, up, bytesOf}
-use Rattle.paper.specs.Replies.{sapBytes, addressOf, infoTail}
 use Rattle.paper.specs.Effects.{standing, changed, behindOrder, behindReply}
 use Rattle.paper.specs.declared.State.{State}
 use Rattle.paper.specs.declared.Stream.{Stream}
@@ -33,7 +30,7 @@ use Rattle.paper.specs.declared.Reply.the-variants as reply
 use Rattle.table_image.specs.Shape.{Shaped}
 use Rattle.table_image.proofs.Shapes.{shaped-calls, shaped-stream, shaped-counter}
 use Rattle.table_image.proofs.Joined.{part-add}
-use Rattle.call_outcomes.proofs.Laws.{part-most, same-long, same-over}
+use Rattle.call_outcomes.proofs.Laws.{same-long, same-over}
 use Rattle.call_enacting.specs.Takes.{takes}
 use Rattle.call_enacting.specs.Written.{Written}
 
@@ -101,35 +98,6 @@ no-tail mac m reply.ResetCon h = refl
 -- CONNECT_IND has the two addresses of the event, one behind the other
 pub two-addresses : (m : List ℕ) → part m 5 14 ≡ calledIn m ++ callingIn m
 two-addresses m = part-add m 5 7 7
-
-sap-most : (sap : ℕ) → length (sapBytes sap) ≤ 2
-sap-most sap = picked (λ (l : List ℕ). length l ≤ 2) (ltb sap 256) _ _ (λ e. omega arith) (λ e. omega arith)
-
--- behind a message up stand at most 14 bytes, where a MAC has six
-module _ (mac : List ℕ) (six : length mac ≡ 6) where
-  address-most : (sap : ℕ) → length (addressOf mac sap) ≤ 8
-  unfolding addressOf
-  address-most sap = omega (arith, six, length-append mac (sapBytes sap), sap-most sap)
-
-  info-most : (s : Stream) → length (infoTail mac s) ≤ 14
-  unfolding infoTail
-  info-most s =
-      let told : List ℕ = pick (isAmong toldStates s) (addressOf mac (s .sap)) [] in
-      let most : length told ≤ 8 = picked (λ (l : List ℕ). length l ≤ 8) (isAmong toldStates s) (addressOf mac (s .sap)) [] (λ z. address-most (s .sap)) (λ z. omega arith) in
-      omega (arith, length-append told (replicate 6 0xff), most)
-
-  pub tail-most : (m : List ℕ) (r : Reply) → length (behindReply mac m r) ≤ 14
-  unfolding behindReply
-  tail-most m (reply.InfoAck s) = info-most s
-  tail-most m (reply.BindAck sap granted) = omega (arith, address-most sap)
-  tail-most m (reply.ErrorAck code error) = omega arith
-  tail-most m (reply.OkAck code) = omega arith
-  tail-most m (reply.ConnectInd n) = omega (arith, length-append (calledIn m) (callingIn m), part-most m 5 7, part-most m 12 7)
-  tail-most m reply.ConnectCon = omega (arith, part-most m 2 7)
-  tail-most m (reply.TokenAck k) = omega arith
-  tail-most m (reply.DisconnectInd reason n) = omega arith
-  tail-most m (reply.ResetInd reason) = omega arith
-  tail-most m reply.ResetCon = omega arith
 
 -- ---- a record written is the one that was to be written, where the two are the same
 

@@ -1,15 +1,15 @@
 -- Laws of what a call leaves: of a refusal, of records written, of records one behind the other.
-use Prim.Native.Nat.{ℕ, _+_, _≤_, _<_}
+use Prim.Native.Nat.{ℕ, _+_, _<_}
 use native.Mathlib.Omega.{arith}
 use mathlib.Core.Path.{_≡_, refl, sym, ap, subst, _∙_}
 use mathlib.Core.Bool.{Bool, true, false}
 use mathlib.Core.List.{List, [], _∷_, _++_, append-assoc, append-nil}
 use lib.Dec.{eqb}
 use borrow.Author.Tests.{lt-ltb}
-use lib.ListN.{length, drop, length-take}
+use lib.ListN.{length}
 use Rattle.ledger.specs.Choice.{_⇒_∣_}
 use Rattle.ledger.specs.Tally.{firstOf}
-use Rattle.octets.specs.Runs.{part, over}
+use Rattle.octets.specs.Runs.{over}
 use Rattle.paper.specs.Base.{Table, macOf}
 use Rattle.paper.specs.declared.Ppa.{Ppa}
 use Rattle.paper.specs.declared.PpaNumber.{PpaNumber}
@@ -73,10 +73,6 @@ pub change-after : (t : Table) → Shaped t → (f : Table → Table) (img : Lis
 change-after t s f img e = ap (λ (u : Table). imageOf (f u)) (table-after t s img e)
 
 -- ---- parts of what is lent
-
--- a part is no longer than asked for
-pub part-most : (s : List ℕ) (at n : ℕ) → length (part s at n) ≤ n
-part-most s at n = omega (arith, length-take n (drop at s))
 
 -- a MAC of the table has six bytes
 pub mac-length : (t : Table) → Shaped t → (p : PpaNumber) → length (macOf t p) ≡ 6

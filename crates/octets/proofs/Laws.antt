@@ -7,7 +7,7 @@ use mathlib.Core.Bool.{Bool, true, false, _&&_, false≢true, and-assoc}
 use mathlib.Core.List.{List, [], _∷_, _++_, append-assoc, append-nil}
 use lib.Bits.{bitOr, or-add-and, and-le-r}
 use lib.Dec.{eqb, eqb·suc-zero}
-use lib.ListN.{length, getD, take, drop, replicate, length-append, length-drop, length-replicate, replicate-append-replicate, drop-of-length-le}
+use lib.ListN.{length, getD, take, drop, replicate, length-append, length-drop, length-take, length-replicate, replicate-append-replicate, drop-of-length-le}
 use lib.Seq.{take-at, drop-at, take-all, take-nil, take-suc, drop-cons, drop-drop, length-take-le}
 use borrow.Author.Tests.{eq-eqb, ne-eqb, eqb-true}
 use borrow.Rule.Slice.PartMut.{midOf, putMid}
@@ -163,3 +163,7 @@ pub flat-more : (w : List ℕ) (i : ℕ) → i < length w → i < 24
 flat-more w i h k =
     let m : length (flat (take i w)) ≡ i * 4 = omega (arith, flat-length (take i w), length-take-le i w (omega arith)) in
     rw (add-one, take-suc w i 0, flat-snoc) (pad-at (flat (take i w)) (be32 (getD w i 0)) (i * 4) m (omega arith))
+
+-- a part is no longer than asked for
+pub part-most : (s : List ℕ) (at n : ℕ) → length (part s at n) ≤ n
+part-most s at n = omega (arith, length-take n (drop at s))

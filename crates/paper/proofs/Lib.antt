@@ -4,6 +4,7 @@ pub mod SoundClauses
 pub mod RefusalOrder
 pub mod Records
 pub mod Sizes
+pub mod Tails
 pub mod StateNumbers
 pub mod StateTable
 pub mod RowFound

@@ -20,6 +20,19 @@ pub info-length : (s : Stream) → length (infoOf s) ≡ 18
 unfolding infoOf
 info-length s = picked (λ (l : List ℕ). length l ≡ 18) (isAmong toldStates s) _ _ (λ e. refl) (λ e. refl)
 
+-- INFO_ACK has the most fields
+pub fields-few : (r : Reply) → length (fieldsOf r) ≤ 19
+fields-few (InfoAck q) = omega (arith, info-length q)
+fields-few (BindAck sap granted) = omega arith
+fields-few (ErrorAck code error) = omega arith
+fields-few (OkAck code) = omega arith
+fields-few (ConnectInd n) = omega arith
+fields-few ConnectCon = omega arith
+fields-few (TokenAck k) = omega arith
+fields-few (DisconnectInd reason n) = omega arith
+fields-few (ResetInd reason) = omega arith
+fields-few ResetCon = omega arith
+
 -- the fields, and the addresses that the size counts
 fields-size : (r : Reply) → length (fieldsOf r) * 4 + addressBytes r ≡ replySize r
 fields-size (InfoAck s) = omega (arith, info-length s)

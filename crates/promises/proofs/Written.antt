@@ -5,19 +5,17 @@ use native.Mathlib.Omega.{arith}
 use mathlib.Core.Path.{_≡_, refl}
 use mathlib.Core.Bool.{Bool, true, false}
 use mathlib.Core.List.{List, [], _∷_, _++_, append-nil}
-use lib.ListN.{length, replicate, length-append}
-use lib.Dec.{eqb, ltb}
+use lib.ListN.{length, length-append}
+use lib.Dec.{eqb}
 use Rattle.ledger.specs.Choice.{pick, either}
 use Rattle.ledger.specs.Tally.{has}
 use Rattle.ledger.proofs.Tallies.{picked}
 use Rattle.octets.specs.Runs.{part}
-use Rattle.call_outcomes.proofs.Laws.{part-most}
-use Rattle.paper.specs.Base.{isAmong, toldStates, Slot, Table, waiting}
-use Rattle.paper.specs.RecordsIn.{calledIn, callingIn}
+use Rattle.octets.proofs.Laws.{part-most}
+use Rattle.paper.specs.Base.{Slot, Table, waiting}
 use Rattle.paper.specs.RecordsOut.{Record, order, flush, up, flushIf, inOrder, bytesOf, allBytes}
-use Rattle.paper.specs.Replies.{sapBytes, addressOf, infoTail, fieldsOf}
+use Rattle.paper.specs.Replies.{fieldsOf}
 use Rattle.paper.specs.Effects.{ordersIn, behindReply, upsIn, told, effectOf, eventEffect}
-use Rattle.paper.proofs.Sizes.{info-length}
 use Rattle.paper.specs.declared.Effect.{Effect}
 use Rattle.paper.specs.declared.Event.{Event}
 use Rattle.paper.specs.declared.Event.the-variants as event
@@ -35,6 +33,8 @@ use Rattle.paper.specs.declared.Stream.{Stream}
 use Rattle.paper.specs.declared.Telling.{Telling}
 use Rattle.paper.specs.declared.Telling.the-variants.{Untold, Tells}
 use Rattle.paper.specs.declared.Token.{Token}
+use Rattle.paper.proofs.Tails.{tail-most}
+use Rattle.paper.proofs.Sizes.{fields-few}
 use Rattle.fates_book.specs.Lines.{asker, mayBeSaid}
 use Rattle.fates_book.specs.declared.End.{End}
 use Rattle.fates_book.specs.declared.Line.{Line}
@@ -101,9 +101,6 @@ size-append : (a b : List Record) → size (a ++ b) ≡ size a + size b
 size-append [] b = omega arith
 size-append (r ∷ a) b = omega (arith, length-append (bytesOf r) (allBytes (a ++ b)), length-append (bytesOf r) (allBytes a), size-append a b)
 
-sap-short : (sap : ℕ) → length (sapBytes sap) ≤ 2
-sap-short sap = picked (λ (l : List ℕ). length l ≤ 2) (ltb sap 256) _ _ (λ e. omega arith) (λ e. omega arith)
-
 -- ---- one effect on stream i, where stream c carries
 
 module _ (i c : ℕ) (own : Slot) (mac m : List ℕ) where
@@ -126,28 +123,9 @@ module _ (i c : ℕ) (own : Slot) (mac m : List ℕ) where
 
   -- ---- the PPA's MAC has six bytes
   module _ (six : length mac ≡ 6) where
-    address-short : (sap : ℕ) → length (addressOf mac sap) ≤ 8
-    unfolding addressOf
-    address-short sap = omega (arith, length-append mac (sapBytes sap), six, sap-short sap)
-
-    info-short : (s : Stream) → length (infoTail mac s) ≤ 14
-    unfolding infoTail
-    info-short s = picked (λ (l : List ℕ). length (l ++ replicate 6 0xff) ≤ 14) (isAmong toldStates s) _ _
-        (λ e. omega (arith, length-append (addressOf mac (s .sap)) (replicate 6 0xff), address-short (s .sap))) (λ e. omega arith)
-
     -- a message up has at most 96 bytes
     fits-block : (r : Reply) → length (fieldsOf r) * 4 + length (behindReply mac m r) ≤ 96
-    unfolding behindReply
-    fits-block (reply.InfoAck s) = omega (arith, info-length s, info-short s)
-    fits-block (reply.BindAck sap granted) = omega (arith, address-short sap)
-    fits-block (reply.ErrorAck code error) = omega arith
-    fits-block (reply.OkAck code) = omega arith
-    fits-block (reply.ConnectInd n) = omega (arith, length-append (calledIn m) (callingIn m), part-most m 5 7, part-most m 12 7)
-    fits-block reply.ConnectCon = omega (arith, part-most m 2 7)
-    fits-block (reply.TokenAck k) = omega arith
-    fits-block (reply.DisconnectInd reason n) = omega arith
-    fits-block (reply.ResetInd reason) = omega arith
-    fits-block reply.ResetCon = omega arith
+    fits-block r = omega (arith, fields-few r, tail-most mac six m r)
 
     size-ups : (u : Saying) → size (upsIn i mac m u) ≤ 99
     unfolding upsIn

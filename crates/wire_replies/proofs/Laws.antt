@@ -12,8 +12,7 @@ use Rattle.octets.proofs.Laws.{paste-join, flat-length}
 use Rattle.paper.specs.Replies.{fieldsOf, contentOf}
 use Rattle.paper.specs.RecordsOut.{up, bytesOf}
 use Rattle.paper.specs.declared.Reply.{Reply}
-use Rattle.paper.specs.declared.Reply.the-variants.{InfoAck, BindAck, ErrorAck, OkAck, ConnectInd, ConnectCon, TokenAck, DisconnectInd, ResetInd, ResetCon}
-use Rattle.paper.proofs.Sizes.{info-length}
+use Rattle.paper.proofs.Sizes.{fields-few}
 
 -- ---- a room with bytes over its start
 
@@ -50,19 +49,6 @@ replicate-part n at k a h =
 -- fields of four bytes each, other bytes behind them
 pub content-length : (fields tail : List ℕ) → length (flat fields ++ tail) ≡ length fields * 4 + length tail
 content-length fields tail = omega (arith, length-append (flat fields) tail, flat-length fields)
-
--- INFO_ACK has the most fields
-fields-few : (r : Reply) → length (fieldsOf r) ≤ 19
-fields-few (InfoAck q) = omega (arith, info-length q)
-fields-few (BindAck sap granted) = omega arith
-fields-few (ErrorAck code error) = omega arith
-fields-few (OkAck code) = omega arith
-fields-few (ConnectInd n) = omega arith
-fields-few ConnectCon = omega arith
-fields-few (TokenAck k) = omega arith
-fields-few (DisconnectInd reason n) = omega arith
-fields-few (ResetInd reason) = omega arith
-fields-few ResetCon = omega arith
 
 pad-length : (l : List ℕ) → length l ≤ 96 → length (pad l) ≡ 96
 pad-length l h = omega (arith, length-append l (replicate (96 - length l) 0), length-replicate {A = ℕ} (96 - length l) 0)

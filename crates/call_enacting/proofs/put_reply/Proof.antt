@@ -8,7 +8,7 @@ use Rattle.paper.specs.Replies.{addressOf, infoTail}
 use Rattle.paper.specs.Effects.{behindReply}
 use Rattle.paper.specs.declared.Reply.the-variants as reply
 use Rattle.table_image.specs.Layout.{tableOf}
-use Rattle.call_outcomes.proofs.Laws.{part-most}
+use Rattle.octets.proofs.Laws.{part-most}
 use Rattle.call_enacting.proofs.Laws.{same-up, two-addresses, no-tail}
 use borrow.Author.Needs.{needs}
 use Rattle.call_enacting.proofs.put_reply.Statement.{statement}

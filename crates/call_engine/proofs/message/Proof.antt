@@ -7,7 +7,7 @@ use denote.Ref.{now}
 use borrow.Author.Tests.{lt-ltb, le-ltb, not-false}
 use Rattle.table_image.specs.Layout.{tableOf}
 use Rattle.table_lookup.proofs.Laws.{open-within}
-use Rattle.call_outcomes.proofs.Laws.{part-most, leaves-refused, where-true, where-false}
+use Rattle.call_outcomes.proofs.Laws.{leaves-refused, where-true, where-false}
 use Rattle.call_outcomes.specs.Leaving.{left, leaving}
 use Rattle.paper.specs.Messages.{codeIn, askedBy}
 use Rattle.paper.specs.StateRows.{stateRows}
@@ -16,6 +16,7 @@ use Rattle.paper.specs.Step.{comes, ofOpen, message}
 use borrow.Author.Needs.{needs}
 use Rattle.call_engine.proofs.message.Statement.{statement}
 use Rattle.call_engine.proofs.message.Tie as tie
+use Rattle.octets.proofs.Laws.{part-most}
 
 returns : tie.Need-returns
 unfolding ofOpen message
