@@ -29,14 +29,16 @@ use Rattle.paper.specs.declared.Found.the-variants.{At, Missing}
 use Rattle.paper.specs.declared.Change.{Change}
 use Rattle.paper.specs.declared.Change.the-variants.{Stays}
 use Rattle.paper.specs.declared.Effect.{Effect}
-use Rattle.call_enacting.specs.Takes.{takes}
+use Rattle.call_outcomes.specs.Takes.{takes}
+use Rattle.call_outcomes.specs.Deciding.{outcomeOf}
+use Rattle.call_outcomes.specs.declared.Decided.the-variants.{Does}
 use Rattle.call_answering.specs.Judging.{RightlyJudged}
 use Rattle.call_answering.specs.declared.Judgement.{Judgement}
 
 module _ (t : Table) (i : ℕ) (m : List ℕ) (code : ℕ) where
   -- an effect, where stream c carries
-  abbrev pub doing : ℕ → Effect → Outcome
-  doing c e = served (enacted t i c m e) (told i c (slot t i) (macAt t i) m e)
+  abbrev doing : ℕ → Effect → Outcome
+  doing c e = outcomeOf t m (Does i c e)
 
   -- an error is the same whoever would carry
   error-enacted : (f : Found) (w : Question) (r : Rule) → doing i (errorEffect code r) ≡ enact t i m (sightBy t i f w) (does (errorEffect code r))

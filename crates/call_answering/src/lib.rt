@@ -1,6 +1,7 @@
 // A message: its state row, what the order of errors reads of the table, and what that comes to.
 ghost use mathlib.Core.Path.{_≡_};
-ghost use Prim.Native.Nat.{_<_, _≤_};
+ghost use mathlib.Core.List.{List};
+ghost use Prim.Native.Nat.{ℕ, _<_, _≤_};
 ghost use lib.ListN.{length};
 ghost use Rattle.paper.specs.Base.{stream};
 ghost use Rattle.paper.specs.Messages.{codeIn, askedBy};
@@ -11,8 +12,9 @@ ghost use Rattle.paper.specs.declared.Asked.the-variants as asked;
 ghost use Rattle.paper.specs.declared.Request.the-variants as request;
 ghost use Rattle.table_image.specs.Layout.{tableOf};
 ghost use Rattle.table_image.specs.Lent.{Lent};
-ghost use Rattle.call_outcomes.specs.Leaving.{left, leaving};
+ghost use Rattle.call_outcomes.specs.Deciding.{Rightly};
 ghost use Rattle.call_answering.specs.Judging.{RightlyJudged};
+use call_outcomes::Decided;
 use paper::Asked;
 use paper::Carrier;
 use paper::ConnectResponse;
@@ -131,43 +133,35 @@ fn cause_of(q: Request) -> u8
     }
 }
 
-// Step 2 of the order of errors, then the others; a request that they let pass is served by its state row.
-fn answer_request(img: &mut [u8], room: &mut [u8], i: u8, m: &[u8], code: u32, q: Request) -> u32
-    requires { ⌜ (i < 16) × (length (now img) ≡ 760) × Lent (now img) × (128 ≤ length (now room)) ⌝ }
-    ensures { λ r. ⌜ left r (now (img .exit)) (now (room .exit)) ≡ leaving (now (img .entry)) (now (room .entry)) (comes stateRows (tableOf (now (img .entry))) i (now (m .entry)) (sends code (asked.For q))) ⌝ }
+// Step 2 of the order of errors, then the others; a request that they let pass is served by its state row. (Which message it
+// is read from is not asked.)
+fn answer_request(img: &[u8], i: u8, code: u32, q: Request) -> Decided
+    requires { ⌜ (i < 16) × (length (now img) ≡ 760) × Lent (now img) ⌝ }
+    ensures { λ r. ⌜ ((m : List ℕ) → Rightly (tableOf (now (img .entry))) m r (comes stateRows (tableOf (now (img .entry))) i m (sends code (asked.For q)))) ⌝ }
 {
     let s = table_image::load_stream(img, i as usize);
     let found = paper_rows::row_for(s, cause_of(q));
     match found {
-        Found::Missing => call_enacting::enact(
-            img,
-            room,
-            i,
-            i,
-            m,
-            paper_effects::error_effect(code, Rule::NoRow),
-        ),
+        Found::Missing => Decided::Does(i, i, paper_effects::error_effect(code, Rule::NoRow)),
         Found::At(x) => {
             let judged = judged_request(img, i, s, q);
             let verdict = judged.verdict;
             let carrier = judged.carrier;
             let e = paper_effects::effect_by(x, Token(i as u32 + 1), code, s, verdict);
-            call_enacting::enact(img, room, i, carrier, m, e)
+            Decided::Does(i, carrier, e)
         }
     }
 }
 
 // Step 1 of the order of errors, then the others.
-pub fn answer(img: &mut [u8], room: &mut [u8], i: u8, m: &[u8]) -> u32
-    requires { ⌜ (i < 16) × (length (now img) ≡ 760) × Lent (now img) × (128 ≤ length (now room)) × (length (now m) ≤ 96) ⌝ }
-    ensures { λ r. ⌜ left r (now (img .exit)) (now (room .exit)) ≡ leaving (now (img .entry)) (now (room .entry)) (comes stateRows (tableOf (now (img .entry))) i (now (m .entry)) (sends (codeIn (now (m .entry))) (askedBy (now (m .entry))))) ⌝ }
+pub fn answer(img: &[u8], i: u8, m: &[u8]) -> Decided
+    requires { ⌜ (i < 16) × (length (now img) ≡ 760) × Lent (now img) × (4 ≤ length (now m)) × (length (now m) ≤ 96) ⌝ }
+    ensures { λ r. ⌜ Rightly (tableOf (now (img .entry))) (now (m .entry)) r (comes stateRows (tableOf (now (img .entry))) i (now (m .entry)) (sends (codeIn (now (m .entry))) (askedBy (now (m .entry))))) ⌝ }
 {
     let code = wire_messages::code_in(m);
     let asked = wire_messages::asked_by(m);
     match asked {
-        Asked::Wrong(rule) => {
-            call_enacting::enact(img, room, i, i, m, paper_effects::error_effect(code, rule))
-        }
-        Asked::For(q) => answer_request(img, room, i, m, code, q),
+        Asked::Wrong(rule) => Decided::Does(i, i, paper_effects::error_effect(code, rule)),
+        Asked::For(q) => answer_request(img, i, code, q),
     }
 }

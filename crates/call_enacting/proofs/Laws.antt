@@ -1,23 +1,22 @@
 -- A change keeps a table's shape, so that one can follow another: it adds an open number only where there is a place, and
--- past the table's end it finds nothing. A message up is 99 bytes long, since at most two addresses stand behind its fields.
+-- past the table's end it finds nothing. What stands behind the fields of a message up comes from the stream or from the event.
 use Prim.Native.Nat.{ℕ, _≤_, _<_}
 use native.Mathlib.Omega.{arith}
 use mathlib.Core.Path.{_≡_, refl, sym, ap, _∙_}
 use mathlib.Core.Bool.{true}
 use mathlib.Core.List.{List, [], _∷_, _++_}
-use lib.ListN.{length, length-append}
-use lib.Seq.{set-out}
+use lib.ListN.{length, take, drop, length-append}
+use lib.Seq.{set-out, take-at}
 use types.Run.{OneOf, miss}
 use denote.Enum.Declared.{tagOf}
 use Rattle.ledger.specs.Tally.{without}
 use Rattle.ledger.proofs.Tallies.{length-without-le}
-use Rattle.octets.specs.Runs.{part, over}
+use Rattle.octets.specs.Runs.{over}
 use Rattle.paper.proofs.LineOrder as the-order
 use Rattle.paper.proofs.Reply as the-reply
 use Rattle.paper.specs.Base.{settled, Slot, Table, waiting, withSlot, withNumbers, withStream, withCounter}
 use Rattle.paper.specs.Correlations.{onePast}
-use Rattle.paper.specs.RecordsIn.{calledIn, callingIn}
-use Rattle.paper.specs.RecordsOut.{Record, up, bytesOf}
+use Rattle.paper.specs.RecordsOut.{Record, bytesOf}
 use Rattle.paper.specs.Effects.{standing, changed, behindOrder, behindReply}
 use Rattle.paper.specs.declared.State.{State}
 use Rattle.paper.specs.declared.Stream.{Stream}
@@ -31,7 +30,8 @@ use Rattle.table_image.specs.Shape.{Shaped}
 use Rattle.table_image.proofs.Shapes.{shaped-calls, shaped-stream, shaped-counter}
 use Rattle.table_image.proofs.Joined.{part-add}
 use Rattle.call_outcomes.proofs.Laws.{same-long, same-over}
-use Rattle.call_enacting.specs.Takes.{takes}
+use Rattle.call_outcomes.specs.Takes.{takes}
+use Rattle.call_enacting.specs.Behind.{ownBehind, behindBy}
 use Rattle.call_enacting.specs.Written.{Written}
 
 -- ---- the table
@@ -78,37 +78,61 @@ no-address own m (lineOrder.Disconnect n reason) h = refl
 no-address own m lineOrder.Reset h = refl
 no-address own m lineOrder.ResetAnswer h = refl
 
--- the messages up with nothing behind their fields, by their tags
-abbrev pub bareReplies : List ℕ
-bareReplies = 2 ∷ 3 ∷ 6 ∷ 7 ∷ 8 ∷ 9 ∷ []
+-- the messages up that do not end in the stream's own address, by their tags
+abbrev pub foreignReplies : List ℕ
+foreignReplies = 2 ∷ 3 ∷ 4 ∷ 5 ∷ 6 ∷ 7 ∷ 8 ∷ 9 ∷ []
 
-pub no-tail : (mac m : List ℕ) (r : Reply) → OneOf bareReplies (tagOf the-reply.the-type r) → [] ≡ behindReply mac m r
-unfolding behindReply
-no-tail mac m (reply.InfoAck s) h = absurd (miss bareReplies 0 tt h)
-no-tail mac m (reply.BindAck sap granted) h = absurd (miss bareReplies 1 tt h)
-no-tail mac m (reply.ErrorAck code error) h = refl
-no-tail mac m (reply.OkAck code) h = refl
-no-tail mac m (reply.ConnectInd n) h = absurd (miss bareReplies 4 tt h)
-no-tail mac m reply.ConnectCon h = absurd (miss bareReplies 5 tt h)
-no-tail mac m (reply.TokenAck k) h = refl
-no-tail mac m (reply.DisconnectInd reason n) h = refl
-no-tail mac m (reply.ResetInd reason) h = refl
-no-tail mac m reply.ResetCon h = refl
+pub not-own : (mac : List ℕ) (r : Reply) → OneOf foreignReplies (tagOf the-reply.the-type r) → ownBehind mac r ≡ []
+unfolding ownBehind
+not-own mac (reply.InfoAck s) h = absurd (miss foreignReplies 0 tt h)
+not-own mac (reply.BindAck sap granted) h = absurd (miss foreignReplies 1 tt h)
+not-own mac (reply.ErrorAck code error) h = refl
+not-own mac (reply.OkAck code) h = refl
+not-own mac (reply.ConnectInd n) h = refl
+not-own mac reply.ConnectCon h = refl
+not-own mac (reply.TokenAck k) h = refl
+not-own mac (reply.DisconnectInd reason n) h = refl
+not-own mac (reply.ResetInd reason) h = refl
+not-own mac reply.ResetCon h = refl
 
--- CONNECT_IND has the two addresses of the event, one behind the other
-pub two-addresses : (m : List ℕ) → part m 5 14 ≡ calledIn m ++ callingIn m
-two-addresses m = part-add m 5 7 7
+-- those that do not end in addresses of the event's record
+abbrev pub ownReplies : List ℕ
+ownReplies = 0 ∷ 1 ∷ 2 ∷ 3 ∷ 6 ∷ 7 ∷ 8 ∷ 9 ∷ []
+
+pub not-event : (own m : List ℕ) (r : Reply) → OneOf ownReplies (tagOf the-reply.the-type r) → own ≡ behindBy own m r
+unfolding behindBy
+not-event own m (reply.InfoAck s) h = refl
+not-event own m (reply.BindAck sap granted) h = refl
+not-event own m (reply.ErrorAck code error) h = refl
+not-event own m (reply.OkAck code) h = refl
+not-event own m (reply.ConnectInd n) h = absurd (miss ownReplies 4 tt h)
+not-event own m reply.ConnectCon h = absurd (miss ownReplies 5 tt h)
+not-event own m (reply.TokenAck k) h = refl
+not-event own m (reply.DisconnectInd reason n) h = refl
+not-event own m (reply.ResetInd reason) h = refl
+not-event own m reply.ResetCon h = refl
+
+-- by where it comes from, it is what stands behind the fields. CONNECT_IND has the two addresses of the event, one behind
+-- the other.
+pub behind-reply : (mac m : List ℕ) (r : Reply) → behindBy (ownBehind mac r) m r ≡ behindReply mac m r
+unfolding ownBehind behindBy behindReply
+behind-reply mac m (reply.InfoAck s) = refl
+behind-reply mac m (reply.BindAck sap granted) = refl
+behind-reply mac m (reply.ErrorAck code error) = refl
+behind-reply mac m (reply.OkAck code) = refl
+behind-reply mac m (reply.ConnectInd n) = part-add m 5 7 7
+behind-reply mac m reply.ConnectCon = refl
+behind-reply mac m (reply.TokenAck k) = refl
+behind-reply mac m (reply.DisconnectInd reason n) = refl
+behind-reply mac m (reply.ResetInd reason) = refl
+behind-reply mac m reply.ResetCon = refl
+
+-- the bytes over a room's start are where it begins
+pub over-begins : {x : List ℕ} (p l : List ℕ) (n : ℕ) → x ≡ over p l → n ≡ length p → take n x ≡ p
+over-begins p l n ex en = ap (take n) ex ∙ take-at p (drop (length p) l) n (sym en)
 
 -- ---- a record written is the one that was to be written, where the two are the same
 
 pub same-order : (r s : Record) → r ≡ s → (n : ℕ) (room room' : List ℕ) → n ≡ length (bytesOf r) → room' ≡ over (bytesOf r) room
     → Written (s ∷ []) n room room'
 same-order r s e n room room' a b = (same-long r s e n a, same-over r s e room room' b)
-
--- what stands behind its fields goes by the reply
-pub same-up : (i : ℕ) (r q : Reply) (x mac m room room' : List ℕ) → r ≡ q → room' ≡ over (bytesOf (up i q x)) room → x ≡ behindReply mac m q
-    → room' ≡ over (bytesOf (up i r (behindReply mac m r))) room
-same-up i r q x mac m room room' k h e =
-    h
-    ∙ ap (λ (l : List ℕ). over (bytesOf (up i q l)) room) e
-    ∙ ap (λ (p : Reply). over (bytesOf (up i p (behindReply mac m p))) room) (sym k)

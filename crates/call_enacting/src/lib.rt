@@ -12,8 +12,11 @@ ghost use Rattle.paper.specs.Effects.{changed, carried, enacted, namedBy, behin
 ghost use Rattle.table_image.specs.Layout.{tableOf, imageOf};
 ghost use Rattle.table_image.specs.Lent.{Lent};
 ghost use Rattle.call_outcomes.specs.Leaving.{left, leaving};
-ghost use Rattle.call_enacting.specs.Takes.{takes};
+ghost use Rattle.call_outcomes.specs.Deciding.{outcomeOf, Enactable};
+ghost use Rattle.call_outcomes.specs.Takes.{takes};
+ghost use Rattle.call_enacting.specs.Behind.{ownBehind, behindBy};
 ghost use Rattle.call_enacting.specs.Written.{Written};
+use call_outcomes::Decided;
 use paper::Change;
 use paper::Correlation;
 use paper::Effect;
@@ -126,25 +129,46 @@ fn mac_at(img: &[u8], i: u8) -> [u8; 6]
     table_lookup::mac_of(img, p)
 }
 
+// The stream's own address, where the message up ends in it: behind the fields of INFO_ACK and BIND_ACK.
+fn put_own_address(img: &[u8], own: &mut [u8], i: u8, reply: Reply) -> usize
+    requires { ⌜ (i < 16) × (length (now img) ≡ 760) × Lent (now img) × (14 ≤ length (now own)) ⌝ }
+    ensures { λ n. ⌜ (n ≡ length (ownBehind (macAt (tableOf (now (img .entry))) i) reply)) × (n ≤ 14) × (now (own .exit) ≡ over (ownBehind (macAt (tableOf (now (img .entry))) i) reply) (now (own .entry))) ⌝ }
+{
+    match reply {
+        Reply::InfoAck(s) => {
+            let mac = mac_at(img, i);
+            wire_replies::put_info_tail(own, s, mac)
+        }
+        Reply::BindAck(sap, _) => {
+            let mac = mac_at(img, i);
+            wire_replies::put_address(own, mac, sap)
+        }
+        _ => 0,
+    }
+}
+
+// What stands behind the fields of a message up: the addresses of the event's record behind those of CONNECT_IND and
+// CONNECT_CON, else the stream's own.
+fn behind<'a>(own: &'a [u8], m: &'a [u8], reply: Reply) -> &'a [u8]
+    ensures { λ r. ⌜ now r ≡ behindBy (now (own .entry)) (now (m .entry)) reply ⌝ }
+{
+    match reply {
+        Reply::ConnectInd(_) => octets::part_at(m, 5, 14),
+        Reply::ConnectCon => octets::part_at(m, 2, 7),
+        _ => own,
+    }
+}
+
 // A message up. INFO_ACK and BIND_ACK end in the stream's address, CONNECT_IND and CONNECT_CON in what the event's record
 // brings.
 fn put_reply(img: &[u8], room: &mut [u8], i: u8, m: &[u8], reply: Reply) -> usize
     requires { ⌜ (i < 16) × (length (now img) ≡ 760) × Lent (now img) × (99 ≤ length (now room)) ⌝ }
     ensures { λ n. ⌜ (n ≡ 99) × (now (room .exit) ≡ over (bytesOf (up i reply (behindReply (macAt (tableOf (now (img .entry))) i) (now (m .entry)) reply))) (now (room .entry))) ⌝ }
 {
-    match reply {
-        Reply::InfoAck(s) => {
-            let mac = mac_at(img, i);
-            wire_replies::put_info_ack(room, i, s, mac)
-        }
-        Reply::BindAck(sap, granted) => {
-            let mac = mac_at(img, i);
-            wire_replies::put_bind_ack(room, i, mac, sap, granted)
-        }
-        Reply::ConnectInd(_) => wire_replies::put_up(room, i, reply, octets::part_at(m, 5, 14)),
-        Reply::ConnectCon => wire_replies::put_up(room, i, reply, octets::part_at(m, 2, 7)),
-        _ => wire_replies::put_up(room, i, reply, &[0u8; 0]),
-    }
+    let mut own = [0u8; 14];
+    let size = put_own_address(img, &mut own, i, reply);
+    let tail = behind(&own[0..size], m, reply);
+    wire_replies::put_up(room, i, reply, tail)
 }
 
 // What the stream's user is told.
@@ -173,7 +197,7 @@ fn put_records(img: &[u8], room: &mut [u8], i: u8, c: u8, m: &[u8], e: Effect) -
 // ---- the call
 
 // An effect on stream i, where stream c carries, of the message m, or of the event whose record m is.
-pub fn enact(img: &mut [u8], room: &mut [u8], i: u8, c: u8, m: &[u8], e: Effect) -> u32
+fn enact(img: &mut [u8], room: &mut [u8], i: u8, c: u8, m: &[u8], e: Effect) -> u32
     requires { ⌜ (i < 16) × (length (now img) ≡ 760) × Lent (now img) × (128 ≤ length (now room)) × (takes (e .change) ≡ true → length (waiting (tableOf (now img)) i) < 8) ⌝ }
     ensures { λ r. ⌜ left r (now (img .exit)) (now (room .exit)) ≡ leaving (now (img .entry)) (now (room .entry)) (served (enacted (tableOf (now (img .entry))) i c (now (m .entry)) e) (told i c (slot (tableOf (now (img .entry))) i) (macAt (tableOf (now (img .entry))) i) (now (m .entry)) e)) ⌝ }
 {
@@ -183,4 +207,15 @@ pub fn enact(img: &mut [u8], room: &mut [u8], i: u8, c: u8, m: &[u8], e: Effect)
     change_stream(img, i, change);
     carry(img, c, carries);
     n as u32
+}
+
+// What was decided, of the message m, or of the event whose record m is. A refusal leaves all as it stood.
+pub fn conclude(img: &mut [u8], room: &mut [u8], m: &[u8], d: Decided) -> u32
+    requires { ⌜ (length (now img) ≡ 760) × Lent (now img) × (128 ≤ length (now room)) × Enactable (tableOf (now img)) d ⌝ }
+    ensures { λ r. ⌜ left r (now (img .exit)) (now (room .exit)) ≡ leaving (now (img .entry)) (now (room .entry)) (outcomeOf (tableOf (now (img .entry))) (now (m .entry)) d) ⌝ }
+{
+    match d {
+        Decided::Refuses(n) => call_outcomes::refused(n),
+        Decided::Does(i, c, e) => enact(img, room, i, c, m, e),
+    }
 }

@@ -1,25 +1,34 @@
 -- What a sound table gives the call's parts, and what the call comes to on images that are sound and that are not.
 use Prim.Native.Nat.{ℕ, _≤_}
 use native.Mathlib.Omega.{arith}
-use mathlib.Core.Path.{_≡_, refl, sym, ap, _∙_}
+use mathlib.Core.Path.{_≡_, refl, sym, ap, subst, _∙_}
 use mathlib.Core.Bool.{Bool, true, false, not, false≢true}
-use mathlib.Core.List.{List}
+use mathlib.Core.List.{List, [], _∷_}
 use lib.ListN.{length}
 use lib.Dec.{eqb, ltb, leb}
-use borrow.Author.Tests.{eqb-true, leb-true}
+use types.Run.{OneOf, miss}
+use denote.Enum.Declared.{tagOf}
+use borrow.Author.Tests.{eqb-true, leb-true, ltb-false}
 use Rattle.ledger.specs.Choice.{pick, both, either, _⇒_∣_}
 use Rattle.ledger.proofs.Tallies.{both-of, skip, all-at, of-either}
 use Rattle.paper.specs.Base.{isAmong, boundStates, Slot, closed, Table, slot, stream, ppaNumbers}
-use Rattle.paper.specs.RecordsIn.{inputOf}
+use Rattle.paper.specs.RecordsIn.{inputOf, messageIn}
 use Rattle.paper.specs.Refusals.{littleRoom, notARecord, notSound, refused}
 use Rattle.paper.specs.Saps.{isSap, isType, asBindAllows}
 use Rattle.paper.specs.Sound.{every, unbound, holdsNothing, openTests, soundSlot, soundTests, sound}
 use Rattle.paper.specs.StateRows.{stateRows}
-use Rattle.paper.specs.Step.{serveBy, isReadable, stepBy}
+use Rattle.paper.specs.Step.{ofOpen, message, serveBy, isReadable, stepBy}
+use Rattle.paper.specs.declared.Input.{Input}
+use Rattle.paper.specs.declared.Input.the-variants as input
 use Rattle.paper.specs.declared.Stream.{Stream}
+use Rattle.paper.proofs.Input as the-input
+use Rattle.paper.proofs.Records.{leastSize, read-long}
 use Rattle.table_image.specs.Layout.{tableOf, tidy, soundImage}
 use Rattle.call_outcomes.specs.Leaving.{left, refusing, leaving, callOf}
+use Rattle.table_image.proofs.Joined.{part-length}
 use Rattle.table_soundness.proofs.Slots.{shut}
+use Rattle.call_events.specs.Bringing.{isOfLine}
+use Rattle.call_engine.specs.Reading.{isOpening, ReadOf}
 
 -- an image that is lent soundly is tidy, and its table sound
 pub parts : (img : List ℕ) → soundImage img ≡ true → (tidy img ≡ true) × (sound (tableOf img) ≡ true)
@@ -56,6 +65,74 @@ table-few t h i = go (slot t i .isOpen) refl (all-at (soundSlot (ppaNumbers t)) 
 
 pub granted-few : (img : List ℕ) → soundImage img ≡ true → (i : ℕ) → stream (tableOf img) i .granted ≤ 8
 granted-few img h = table-few (tableOf img) (parts img h .1)
+
+-- ---- what a record asks for, by the tags of what was read
+
+-- any but a message
+abbrev noMessage : List ℕ
+noMessage = 0 ∷ 1 ∷ 2 ∷ 3 ∷ 4 ∷ 6 ∷ 7 ∷ 8 ∷ 9 ∷ 10 ∷ 11 ∷ []
+
+-- any but an opening
+abbrev noOpening : List ℕ
+noOpening = 0 ∷ 1 ∷ 5 ∷ 6 ∷ 7 ∷ 8 ∷ 9 ∷ 10 ∷ 11 ∷ []
+
+pub to-stream : (q : Input) → OneOf noOpening (tagOf the-input.the-type q) → isOpening q ≡ false
+to-stream input.Unreadable k = refl
+to-stream input.Padded k = refl
+to-stream (input.AddPpa p) k = absurd (miss noOpening 2 tt k)
+to-stream input.Open k = absurd (miss noOpening 3 tt k)
+to-stream (input.Close i) k = absurd (miss noOpening 4 tt k)
+to-stream (input.Message i l) k = refl
+to-stream (input.CallArrives p sap) k = refl
+to-stream (input.PeerAccepted i) k = refl
+to-stream (input.PeerGone i reason) k = refl
+to-stream (input.CallWithdrawn i n reason) k = refl
+to-stream (input.PeerReset i reason) k = refl
+to-stream (input.ResetConfirmed i) k = refl
+
+pub from-line : (q : Input) → isOpening q ≡ false → OneOf noMessage (tagOf the-input.the-type q) → isOfLine q ≡ true
+from-line input.Unreadable h k = refl
+from-line input.Padded h k = refl
+from-line (input.AddPpa p) h k = absurd (false≢true (sym h))
+from-line input.Open h k = absurd (false≢true (sym h))
+from-line (input.Close i) h k = absurd (false≢true (sym h))
+from-line (input.Message i l) h k = absurd (miss noMessage 5 tt k)
+from-line (input.CallArrives p sap) h k = refl
+from-line (input.PeerAccepted i) h k = refl
+from-line (input.PeerGone i reason) h k = refl
+from-line (input.CallWithdrawn i n reason) h k = refl
+from-line (input.PeerReset i reason) h k = refl
+from-line (input.ResetConfirmed i) h k = refl
+
+-- ---- the bytes that an effect reads
+
+pub read-message : (r m : List ℕ) (q : Input) (i l : ℕ) → q ≡ input.Message i l → (l ≤ 96 → m ≡ messageIn r l) → ReadOf r q m
+read-message r m q i l e h = record {
+  message = λ j k z s. let same : k ≡ l = cc in rw same (h (omega (arith, same, s)));
+  event = λ k. absurd (false≢true (ap isOfLine (sym e) ∙ k));
+}
+
+pub read-other : (r : List ℕ) (q : Input) → OneOf noMessage (tagOf the-input.the-type q) → ReadOf r q r
+read-other r q k = record {
+  message = λ i l e s. absurd (miss noMessage 5 tt (subst (λ (q : Input). OneOf noMessage (tagOf the-input.the-type q)) e k));
+  event = λ h. refl;
+}
+
+-- a message has its L bytes
+pub read-size : (r m : List ℕ) (q : Input) (i l : ℕ) → q ≡ input.Message i l → inputOf r ≡ q → ReadOf r q m → l ≤ 96 → length m ≡ l
+read-size r m q i l e f h s =
+    let long : 99 ≤ length r = subst (λ (q : Input). leastSize q ≤ length r) (f ∙ e) (read-long r) in
+    ap length (h .message i l e s) ∙ part-length r 3 l (omega (arith, long, s))
+
+-- it is decided by them, and one over 96 bytes whatever they are
+pub any-message : (t : Table) (r m : List ℕ) (q : Input) (i l : ℕ) → q ≡ input.Message i l → ReadOf r q m
+    → ofOpen t i (message stateRows t i l m) ≡ serveBy stateRows t r q
+unfolding message _⇒_∣_
+any-message t r m q i l e h = go (ltb 96 l) refl
+  where
+    go : (b : Bool) → ltb 96 l ≡ b → ofOpen t i (message stateRows t i l m) ≡ serveBy stateRows t r q
+    go true f = rw (e, f)
+    go false f = rw e (ap (λ (m : List ℕ). ofOpen t i (message stateRows t i l m)) (h .message i l e (ltb-false _ _ f)))
 
 -- ---- the call
 

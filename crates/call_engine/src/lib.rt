@@ -1,39 +1,73 @@
 // The call: it reads one record, decides by value, writes its records into the lent room and changes the lent table.
 ghost use mathlib.Core.Path.{_≡_};
-ghost use mathlib.Core.Bool.{true};
+ghost use mathlib.Core.Bool.{true, false};
 ghost use Prim.Native.Nat.{_≤_};
 ghost use lib.ListN.{length};
-ghost use Rattle.paper.specs.RecordsIn.{inputOf, messageIn};
+ghost use Rattle.paper.specs.RecordsIn.{inputOf};
 ghost use Rattle.paper.specs.StateRows.{stateRows};
 ghost use Rattle.paper.specs.Step.{ofOpen, message, serveBy, isReadable};
 ghost use Rattle.table_image.specs.Layout.{tableOf, soundImage};
 ghost use Rattle.table_image.specs.Lent.{Lent};
 ghost use Rattle.call_outcomes.specs.Leaving.{left, leaving, callOf};
+ghost use Rattle.call_outcomes.specs.Deciding.{Rightly};
+ghost use Rattle.call_engine.specs.Reading.{ReadOf, isOpening};
+use call_outcomes::Decided;
 use call_outcomes::LITTLE_ROOM;
 use call_outcomes::NO_CODE;
 use call_outcomes::NOT_A_RECORD;
 use call_outcomes::NOT_OPEN;
 use call_outcomes::NOT_SOUND;
 use call_outcomes::OVER_LONG;
-use paper::Event;
 use paper::Input;
 
-// A message for stream i in record r: refusals 2, 5 and 4, then its answer.
-fn message(img: &mut [u8], room: &mut [u8], i: u8, l: u8, r: &[u8]) -> u32
-    requires { ⌜ (length (now img) ≡ 760) × Lent (now img) × (128 ≤ length (now room)) ⌝ }
-    ensures { λ n. ⌜ left n (now (img .exit)) (now (room .exit)) ≡ leaving (now (img .entry)) (now (room .entry)) (ofOpen (tableOf (now (img .entry))) i (message stateRows (tableOf (now (img .entry))) i l (messageIn (now (r .entry)) l))) ⌝ }
+// ---- what comes to a stream
+
+// The bytes that an effect reads: the message, or the event's record. (A message over 96 bytes has no effect.)
+fn read_of<'a>(r: &'a [u8], q: Input) -> &'a [u8]
+    requires { ⌜ inputOf (now r) ≡ q ⌝ }
+    ensures { λ m. ⌜ ReadOf (now (r .entry)) q (now m) ⌝ }
+{
+    match q {
+        Input::Message(_, l) => {
+            if 96 < l {
+                return r;
+            }
+            let end = 3 + l as usize;
+            &r[3..end]
+        }
+        _ => r,
+    }
+}
+
+// A message of stream i: refusals 2, 5 and 4, then its answer.
+fn message(img: &[u8], i: u8, l: u8, m: &[u8]) -> Decided
+    requires { ⌜ (length (now img) ≡ 760) × Lent (now img) × (l ≤ 96 → length (now m) ≡ l) ⌝ }
+    ensures { λ d. ⌜ Rightly (tableOf (now (img .entry))) (now (m .entry)) d (ofOpen (tableOf (now (img .entry))) i (message stateRows (tableOf (now (img .entry))) i l (now (m .entry)))) ⌝ }
 {
     if !table_image::is_open(img, i as usize) {
-        return call_outcomes::refused(NOT_OPEN);
+        return Decided::Refuses(NOT_OPEN);
     }
     if 96 < l {
-        return call_outcomes::refused(OVER_LONG);
+        return Decided::Refuses(OVER_LONG);
     }
     if l < 4 {
-        return call_outcomes::refused(NO_CODE);
+        return Decided::Refuses(NO_CODE);
     }
-    call_answering::answer(img, room, i, octets::part_at(r, 3, l as usize))
+    call_answering::answer(img, i, m)
 }
+
+// Any message, any event.
+fn decide(img: &[u8], r: &[u8], m: &[u8], q: Input) -> Decided
+    requires { ⌜ (length (now img) ≡ 760) × (soundImage (now img) ≡ true) × (inputOf (now r) ≡ q) × (isOpening q ≡ false) × ReadOf (now r) q (now m) ⌝ }
+    ensures { λ d. ⌜ Rightly (tableOf (now (img .entry))) (now (m .entry)) d (serveBy stateRows (tableOf (now (img .entry))) (now (r .entry)) q) ⌝ }
+{
+    match q {
+        Input::Message(i, l) => message(img, i, l, m),
+        _ => call_events::occur(img, r, q),
+    }
+}
+
+// ---- the call
 
 // A record that was read as q, in room enough.
 fn serve(img: &mut [u8], room: &mut [u8], r: &[u8], q: Input) -> u32
@@ -41,20 +75,14 @@ fn serve(img: &mut [u8], room: &mut [u8], r: &[u8], q: Input) -> u32
     ensures { λ n. ⌜ left n (now (img .exit)) (now (room .exit)) ≡ leaving (now (img .entry)) (now (room .entry)) (serveBy stateRows (tableOf (now (img .entry))) (now (r .entry)) q) ⌝ }
 {
     match q {
-        Input::Unreadable => call_outcomes::refused(NOT_A_RECORD),
-        Input::Padded => call_outcomes::refused(NOT_A_RECORD),
         Input::AddPpa(p) => call_openings::add_ppa(img, p, octets::part_at(r, 5, 6)),
         Input::Open => call_openings::open_stream(img),
         Input::Close(i) => call_openings::close_stream(img, room, i),
-        Input::Message(i, l) => message(img, room, i, l, r),
-        Input::CallArrives(p, sap) => call_events::call_arrives(img, room, p, sap, r),
-        Input::PeerAccepted(i) => call_events::come(img, room, i, r, Event::Accepted),
-        Input::PeerGone(i, reason) => call_events::come(img, room, i, r, Event::Gone(reason)),
-        Input::CallWithdrawn(i, n, reason) => {
-            call_events::come(img, room, i, r, Event::Withdrawn(n, reason))
+        _ => {
+            let m = read_of(r, q);
+            let d = decide(img, r, m, q);
+            call_enacting::conclude(img, room, m, d)
         }
-        Input::PeerReset(i, reason) => call_events::come(img, room, i, r, Event::Resets(reason)),
-        Input::ResetConfirmed(i) => call_events::come(img, room, i, r, Event::Confirmed),
     }
 }
 

@@ -3,17 +3,22 @@ use Prim.Native.Nat.{ℕ, _<_, _≤_}
 use native.Mathlib.Omega.{arith}
 use mathlib.Core.Path.{_≡_, refl, sym, ap, _∙_}
 use mathlib.Core.Bool.{Bool, true, false, false≢true}
-use mathlib.Core.List.{List}
+use mathlib.Core.List.{List, [], _∷_}
 use lib.ListN.{length}
+use types.Run.{OneOf, miss}
+use denote.Enum.Declared.{tagOf}
 use borrow.Author.Tests.{ltb-true}
 use Rattle.ledger.specs.Choice.{_⇒_∣_}
-use Rattle.paper.specs.Base.{Table, slot, stream, waiting, macAt}
-use Rattle.paper.specs.Refusals.{Outcome, refused, served}
+use Rattle.paper.proofs.Input as the-input
+use Rattle.paper.specs.Base.{Table, slot, stream, waiting}
+use Rattle.paper.specs.Refusals.{Outcome, notARecord, refused}
 use Rattle.paper.specs.StateRows.{stateRows, found}
 use Rattle.paper.specs.Sight.{nothing, brings, letterOf, answerTo, sightBy}
-use Rattle.paper.specs.Effects.{enacted, told, eventEffect}
+use Rattle.paper.specs.Effects.{eventEffect}
 use Rattle.paper.specs.Decide.{isDue, decideBy}
-use Rattle.paper.specs.Step.{enact, comes}
+use Rattle.paper.specs.Step.{enact, comes, serveBy}
+use Rattle.paper.specs.declared.Input.{Input}
+use Rattle.paper.specs.declared.Input.the-variants as input
 use Rattle.paper.specs.declared.Stream.{Stream}
 use Rattle.paper.specs.declared.StateRow.{StateRow}
 use Rattle.paper.specs.declared.Found.{Found}
@@ -21,13 +26,16 @@ use Rattle.paper.specs.declared.Found.the-variants.{At, Missing}
 use Rattle.paper.specs.declared.Event.{Event}
 use Rattle.paper.specs.declared.Event.the-variants as event
 use Rattle.paper.specs.declared.Effect.{Effect}
-use Rattle.call_enacting.specs.Takes.{takes}
+use Rattle.call_outcomes.specs.Takes.{takes}
+use Rattle.call_outcomes.specs.Deciding.{outcomeOf}
+use Rattle.call_outcomes.specs.declared.Decided.the-variants.{Does}
 use Rattle.call_events.specs.DueRow.{dueRow}
+use Rattle.call_events.specs.Bringing.{isOfLine}
 
 module _ (t : Table) (i : ℕ) (r : List ℕ) (refusal : ℕ) (e : Event) where
   -- an effect of what the line brings: it names no stream that would carry
   abbrev doing : Effect → Outcome
-  doing w = served (enacted t i i r w) (told i i (slot t i) (macAt t i) r w)
+  doing w = outcomeOf t r (Does i i w)
 
   abbrev by : Found → Outcome
   by Missing = refused t refusal
@@ -78,3 +86,23 @@ placed t i x s event.Confirmed d g h = absurd (false≢true h)
 pub place : (t : Table) (i : ℕ) (e : Event) (f : Found) (x : StateRow) (s : Stream) (w : Effect) → f ≡ dueRow t i e → f ≡ At x → w ≡ eventEffect x s e
     → stream t i .granted ≤ 8 → takes (w .change) ≡ true → length (waiting t i) < 8
 place t i e f x s w d h z g k = placed t i x s e (due t i e x (sym d ∙ h)) g (ap (λ (w : Effect). takes (w .change)) (sym z) ∙ k)
+
+-- ---- of the records that bring no event, those that are not the line's are ruled out, and the others cannot be read
+
+-- by their tags
+abbrev eventless : List ℕ
+eventless = 0 ∷ 1 ∷ 2 ∷ 3 ∷ 4 ∷ 5 ∷ []
+
+pub unread : (t : Table) (r : List ℕ) (q : Input) → OneOf eventless (tagOf the-input.the-type q) → isOfLine q ≡ true → refused t notARecord ≡ serveBy stateRows t r q
+unread t r input.Unreadable k h = refl
+unread t r input.Padded k h = refl
+unread t r (input.AddPpa p) k h = absurd (false≢true h)
+unread t r input.Open k h = absurd (false≢true h)
+unread t r (input.Close i) k h = absurd (false≢true h)
+unread t r (input.Message i l) k h = absurd (false≢true h)
+unread t r (input.CallArrives p sap) k h = absurd (miss eventless 6 tt k)
+unread t r (input.PeerAccepted i) k h = absurd (miss eventless 7 tt k)
+unread t r (input.PeerGone i reason) k h = absurd (miss eventless 8 tt k)
+unread t r (input.CallWithdrawn i n reason) k h = absurd (miss eventless 9 tt k)
+unread t r (input.PeerReset i reason) k h = absurd (miss eventless 10 tt k)
+unread t r (input.ResetConfirmed i) k h = absurd (miss eventless 11 tt k)

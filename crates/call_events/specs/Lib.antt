@@ -1,1 +1,2 @@
 pub mod DueRow
+pub mod Bringing

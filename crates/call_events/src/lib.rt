@@ -1,28 +1,32 @@
 // What the line brings.
 ghost use mathlib.Core.Path.{_≡_};
+ghost use mathlib.Core.Bool.{true};
+ghost use mathlib.Core.List.{List};
 ghost use Prim.Native.Nat.{ℕ, _<_, _≤_};
 ghost use lib.ListN.{length, take};
 ghost use Rattle.octets.specs.Runs.{sameBytes};
 ghost use Rattle.paper.specs.Base.{slot, stream, macOf};
 ghost use Rattle.paper.specs.RecordsIn.{calledIn};
-ghost use Rattle.paper.specs.Refusals.{unexpected, busy};
-ghost use Rattle.paper.specs.Correlations.{nextNumber};
+ghost use Rattle.paper.specs.Refusals.{unexpected};
 ghost use Rattle.paper.specs.StateRows.{stateRows};
 ghost use Rattle.paper.specs.Sight.{brings, letterOf};
 ghost use Rattle.paper.specs.Decide.{isDue};
-ghost use Rattle.paper.specs.Step.{comes, ofOpen, arrives};
-ghost use Rattle.paper.specs.declared.Event.the-variants as event;
+ghost use Rattle.paper.specs.Step.{comes, ofOpen, arrives, serveBy};
 ghost use Rattle.table_image.specs.Layout.{tableOf};
 ghost use Rattle.table_image.specs.Lent.{Lent};
-ghost use Rattle.call_outcomes.specs.Leaving.{left, leaving};
+ghost use Rattle.call_outcomes.specs.Deciding.{Rightly};
 ghost use Rattle.call_events.specs.DueRow.{dueRow};
+ghost use Rattle.call_events.specs.Bringing.{RightlyBrought, isOfLine};
 use call_outcomes::BUSY;
+use call_outcomes::Decided;
 use call_outcomes::NOBODY_THERE;
+use call_outcomes::NOT_A_RECORD;
 use call_outcomes::NOT_OPEN;
 use call_outcomes::UNEXPECTED;
 use paper::Correlation;
 use paper::Event;
 use paper::Found;
+use paper::Input;
 use paper::PpaNumber;
 use paper::Stream;
 
@@ -71,44 +75,38 @@ fn row_of(img: &[u8], i: u8, s: Stream, event: Event) -> Found
     paper_rows::row_for(s, letter_of(event))
 }
 
-// ---- A, D, W, R and S
-
-// An event of stream i: refusals 2 and 6, then what its row says.
-pub fn come(img: &mut [u8], room: &mut [u8], i: u8, r: &[u8], event: Event) -> u32
-    requires { ⌜ (length (now img) ≡ 760) × Lent (now img) × (128 ≤ length (now room)) × (stream (tableOf (now img)) i .granted ≤ 8) ⌝ }
-    ensures { λ n. ⌜ left n (now (img .exit)) (now (room .exit)) ≡ leaving (now (img .entry)) (now (room .entry)) (ofOpen (tableOf (now (img .entry))) i (comes stateRows (tableOf (now (img .entry))) i (now (r .entry)) (brings unexpected event))) ⌝ }
+// An event of stream i: what its row says, or the refusal.
+fn come(img: &[u8], i: u8, refusal: u8, event: Event) -> Decided
+    requires { ⌜ (i < 16) × (length (now img) ≡ 760) × Lent (now img) × (0 < refusal) × (stream (tableOf (now img)) i .granted ≤ 8) ⌝ }
+    ensures { λ d. ⌜ ((r : List ℕ) → Rightly (tableOf (now (img .entry))) r d (comes stateRows (tableOf (now (img .entry))) i r (brings refusal event))) ⌝ }
 {
-    if !table_image::is_open(img, i as usize) {
-        return call_outcomes::refused(NOT_OPEN);
-    }
     let s = table_image::load_stream(img, i as usize);
     let found = row_of(img, i, s, event);
     match found {
-        Found::Missing => call_outcomes::refused(UNEXPECTED),
-        Found::At(x) => {
-            call_enacting::enact(img, room, i, i, r, paper_effects::event_effect(x, s, event))
-        }
+        Found::Missing => Decided::Refuses(refusal),
+        Found::At(x) => Decided::Does(i, i, paper_effects::event_effect(x, s, event)),
     }
 }
 
-// ---- I
+// ---- the stream that it comes to
 
-// The listener takes the next number, unless it is busy. (Whether a call may come does not depend on its number, which is
-// looked for only then.)
-fn heard_by(img: &mut [u8], room: &mut [u8], i: u8, r: &[u8]) -> u32
-    requires { ⌜ (i < 16) × (length (now img) ≡ 760) × Lent (now img) × (128 ≤ length (now room)) × (stream (tableOf (now img)) i .granted ≤ 8) ⌝ }
-    ensures { λ n. ⌜ left n (now (img .exit)) (now (room .exit)) ≡ leaving (now (img .entry)) (now (room .entry)) (comes stateRows (tableOf (now (img .entry))) i (now (r .entry)) (brings busy (event.Arrives (record { 0 = nextNumber (tableOf (now (img .entry))) })))) ⌝ }
+// What a record of the line brings.
+enum Brought {
+    // a refusal, before any row is looked for
+    Refused(u8),
+    // to a stream an event, with the refusal number where it may not come
+    To(u8, u8, Event),
+}
+
+// A, D, W, R and S name their stream: 2 unless it is open, then 6 where there is no row.
+fn named(img: &[u8], i: u8, event: Event) -> Brought
+    requires { ⌜ (length (now img) ≡ 760) × Lent (now img) ⌝ }
+    ensures { λ b. ⌜ ((r : List ℕ) → RightlyBrought (tableOf (now (img .entry))) r b (ofOpen (tableOf (now (img .entry))) i (comes stateRows (tableOf (now (img .entry))) i r (brings unexpected event)))) ⌝ }
 {
-    let s = table_image::load_stream(img, i as usize);
-    let found = row_of(img, i, s, Event::Arrives(Correlation(0)));
-    match found {
-        Found::Missing => call_outcomes::refused(BUSY),
-        Found::At(x) => {
-            let n = table_numbers::next_number(img);
-            let e = paper_effects::event_effect(x, s, Event::Arrives(Correlation(n)));
-            call_enacting::enact(img, room, i, i, r, e)
-        }
+    if !table_image::is_open(img, i as usize) {
+        return Brought::Refused(NOT_OPEN);
     }
+    Brought::To(i, UNEXPECTED, event)
 }
 
 // The called MAC is that of the PPA. In the record the called address comes first, its MAC before its SAP.
@@ -120,20 +118,52 @@ fn is_called(img: &[u8], p: PpaNumber, r: &[u8]) -> bool
     octets::same_bytes(octets::part_at(r, 5, 6), &mac)
 }
 
-// 7 unless the PPA is known and has the called MAC, and somebody listens for it and the SAP; then 8, or the indication.
-pub fn call_arrives(img: &mut [u8], room: &mut [u8], p: PpaNumber, sap: u8, r: &[u8]) -> u32
-    requires { ⌜ (length (now img) ≡ 760) × Lent (now img) × (128 ≤ length (now room)) × ((i : ℕ) → stream (tableOf (now img)) i .granted ≤ 8) ⌝ }
-    ensures { λ n. ⌜ left n (now (img .exit)) (now (room .exit)) ≡ leaving (now (img .entry)) (now (room .entry)) (arrives stateRows (tableOf (now (img .entry))) p sap (now (r .entry))) ⌝ }
+// I comes to its listener, with the next number: 7 unless the PPA is known and has the called MAC, and somebody listens for it
+// and the SAP; then 8 where the listener is busy.
+fn call_arrives(img: &[u8], p: PpaNumber, sap: u8, r: &[u8]) -> Brought
+    requires { ⌜ (length (now img) ≡ 760) × Lent (now img) ⌝ }
+    ensures { λ b. ⌜ RightlyBrought (tableOf (now (img .entry))) (now (r .entry)) b (arrives stateRows (tableOf (now (img .entry))) p sap (now (r .entry))) ⌝ }
 {
     if !table_lookup::knows(img, p) {
-        return call_outcomes::refused(NOBODY_THERE);
+        return Brought::Refused(NOBODY_THERE);
     }
     if !is_called(img, p, r) {
-        return call_outcomes::refused(NOBODY_THERE);
+        return Brought::Refused(NOBODY_THERE);
     }
     let i = table_lookup::listener(img, p, octets::wide(sap));
     if 16 <= i {
-        return call_outcomes::refused(NOBODY_THERE);
+        return Brought::Refused(NOBODY_THERE);
     }
-    heard_by(img, room, i as u8, r)
+    let n = table_numbers::next_number(img);
+    Brought::To(i as u8, BUSY, Event::Arrives(Correlation(n)))
+}
+
+// By the record's kind. (What is no record of the line is refused.)
+fn bring(img: &[u8], r: &[u8], q: Input) -> Brought
+    requires { ⌜ (length (now img) ≡ 760) × Lent (now img) × (isOfLine q ≡ true) ⌝ }
+    ensures { λ b. ⌜ RightlyBrought (tableOf (now (img .entry))) (now (r .entry)) b (serveBy stateRows (tableOf (now (img .entry))) (now (r .entry)) q) ⌝ }
+{
+    match q {
+        Input::CallArrives(p, sap) => call_arrives(img, p, sap, r),
+        Input::PeerAccepted(i) => named(img, i, Event::Accepted),
+        Input::PeerGone(i, reason) => named(img, i, Event::Gone(reason)),
+        Input::CallWithdrawn(i, n, reason) => named(img, i, Event::Withdrawn(n, reason)),
+        Input::PeerReset(i, reason) => named(img, i, Event::Resets(reason)),
+        Input::ResetConfirmed(i) => named(img, i, Event::Confirmed),
+        _ => Brought::Refused(NOT_A_RECORD),
+    }
+}
+
+// ---- any event
+
+// What is decided of a record of the line.
+pub fn occur(img: &[u8], r: &[u8], q: Input) -> Decided
+    requires { ⌜ (length (now img) ≡ 760) × Lent (now img) × ((i : ℕ) → stream (tableOf (now img)) i .granted ≤ 8) × (isOfLine q ≡ true) ⌝ }
+    ensures { λ d. ⌜ Rightly (tableOf (now (img .entry))) (now (r .entry)) d (serveBy stateRows (tableOf (now (img .entry))) (now (r .entry)) q) ⌝ }
+{
+    let b = bring(img, r, q);
+    match b {
+        Brought::Refused(n) => Decided::Refuses(n),
+        Brought::To(i, refusal, event) => come(img, i, refusal, event),
+    }
 }

@@ -1,2 +1,4 @@
 pub mod Leaving
 pub mod Fresh
+pub mod Takes
+pub mod Deciding

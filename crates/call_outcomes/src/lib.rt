@@ -1,6 +1,7 @@
-// What a call leaves in the bytes lent to it: see specs/.
+// What is decided of a call, and what it leaves in the bytes lent to it: see specs/.
 ghost use mathlib.Core.Path.{_≡_};
 ghost use Rattle.call_outcomes.specs.Leaving.{refusing};
+use paper::Effect;
 
 // The refusal numbers of the rule paper.
 
@@ -42,4 +43,12 @@ pub fn refused(n: u8) -> u32
     ensures { λ r. ⌜ r ≡ refusing n ⌝ }
 {
     octets::wide(n) * 65536
+}
+
+// What is decided of what comes to a stream, before anything is written.
+pub enum Decided {
+    // the refusal number
+    Refuses(u8),
+    // an effect on the first stream, where the second one carries
+    Does(u8, u8, Effect),
 }

@@ -18,9 +18,10 @@ use paper::Rule;
 use paper::Token;
 
 pub fn code_in(m: &[u8]) -> u32
+    requires { ⌜ 4 ≤ length (now m) ⌝ }
     ensures { λ r. ⌜ r ≡ codeIn (now (m .entry)) ⌝ }
 {
-    octets::number32_at(m, 0)
+    octets::number32_inside(m, 0)
 }
 
 // The codes that are not in the paper's table: eight of them are known, but not supported.
@@ -129,7 +130,7 @@ fn disconnect_in(m: &[u8]) -> Asked
 
 // Step 1 of the order of errors: what a message of at least four bytes asks for.
 pub fn asked_by(m: &[u8]) -> Asked
-    requires { ⌜ length (now m) ≤ 96 ⌝ }
+    requires { ⌜ (4 ≤ length (now m)) × (length (now m) ≤ 96) ⌝ }
     ensures { λ r. ⌜ r ≡ askedBy (now (m .entry)) ⌝ }
 {
     match primitive_of(code_in(m)) {

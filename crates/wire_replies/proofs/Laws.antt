@@ -2,11 +2,10 @@
 use Prim.Native.Nat.{ℕ, _+_, _*_, _-_, _≤_}
 use native.Mathlib.Nat.{zero-add}
 use native.Mathlib.Omega.{arith}
-use mathlib.Core.Path.{_≡_, sym, ap, ap₂, _∙_}
+use mathlib.Core.Path.{_≡_, sym, ap₂, _∙_}
 use mathlib.Core.List.{List, _++_}
-use lib.ListN.{length, take, drop, replicate, length-append, length-replicate, replicate-append-replicate}
-use lib.Seq.{take-at, drop-at, take-append-add}
-use Rattle.octets.specs.Runs.{part, paste, over}
+use lib.ListN.{length, replicate, length-append, length-replicate}
+use Rattle.octets.specs.Runs.{paste, over}
 use Rattle.octets.specs.Blocks.{flat, pad}
 use Rattle.octets.proofs.Laws.{paste-join, flat-length}
 use Rattle.paper.specs.Replies.{fieldsOf, contentOf}
@@ -26,23 +25,6 @@ paste-next p q l n ex en =
     ap₂ (λ (y : List ℕ) (k : ℕ). paste y k q) (ex ∙ sym (paste-start p l)) (sym (zero-add (length p) ∙ en))
     ∙ sym (paste-join l 0 p q (omega arith))
     ∙ paste-start (p ++ q) l
-
--- a room begins with the bytes over its start, and then is as it was
-pub over-begins : {x : List ℕ} (p l : List ℕ) (n k : ℕ) → x ≡ over p l → n ≡ length p + k → take n x ≡ p ++ part l (length p) k
-over-begins p l n k ex en = ap₂ take en ex ∙ take-append-add p (drop (length p) l) k
-
--- a part of equal bytes
-pub replicate-part : (n at k a : ℕ) → at + k ≤ n → part (replicate n a) at k ≡ replicate k a
-replicate-part n at k a h =
-    let rest : ℕ = n - at - k in
-    let m : n ≡ at + (k + rest) = omega arith in
-    let e : replicate n a ≡ replicate at a ++ (replicate k a ++ replicate rest a) =
-    ap (λ (j : ℕ). replicate j a) m
-    ∙ sym (replicate-append-replicate at (k + rest) a)
-    ∙ ap (λ (r : List ℕ). replicate at a ++ r) (sym (replicate-append-replicate k rest a)) in
-    ap (λ (l : List ℕ). part l at k) e
-    ∙ ap (take k) (drop-at (replicate at a) (replicate k a ++ replicate rest a) at (length-replicate at a))
-    ∙ take-at (replicate k a) (replicate rest a) k (length-replicate k a)
 
 -- ---- the size of a message up
 

@@ -209,10 +209,10 @@ pub fn put_up(room: &mut [u8], s: u8, reply: Reply, tail: &[u8]) -> usize
     }
 }
 
-// ---- messages up that end in an address
+// ---- addresses, which stand behind the fields of a message up
 
 // An address is the MAC, then 1 byte of SAP or 2 of Ethernet type.
-fn put_address(room: &mut [u8], mac: [u8; 6], sap: u16) -> usize
+pub fn put_address(room: &mut [u8], mac: [u8; 6], sap: u16) -> usize
     requires { ⌜ 8 ≤ length (now room) ⌝ }
     ensures { λ n. ⌜ (n ≡ length (addressOf mac sap)) × (n ≤ 8) × (now (room .exit) ≡ over (addressOf mac sap) (now (room .entry))) ⌝ }
 {
@@ -236,22 +236,12 @@ fn put_bound_address(room: &mut [u8], q: Stream, mac: [u8; 6]) -> usize
     0
 }
 
-// INFO_ACK: the fields, the address if bound, six bytes of 0xff.
-pub fn put_info_ack(room: &mut [u8], s: u8, q: Stream, mac: [u8; 6]) -> usize
-    requires { ⌜ 99 ≤ length (now room) ⌝ }
-    ensures { λ n. ⌜ (n ≡ 99) × (now (room .exit) ≡ over (bytesOf (up s (Reply.InfoAck q) (infoTail mac q))) (now (room .entry))) ⌝ }
+// What stands behind INFO_ACK's fields: the address if bound, then six bytes of 0xff.
+pub fn put_info_tail(room: &mut [u8], q: Stream, mac: [u8; 6]) -> usize
+    requires { ⌜ 14 ≤ length (now room) ⌝ }
+    ensures { λ n. ⌜ (n ≡ length (infoTail mac q)) × (n ≤ 14) × (now (room .exit) ≡ over (infoTail mac q) (now (room .entry))) ⌝ }
 {
-    let mut tail = [0xffu8; 14];
-    let size = put_bound_address(&mut tail, q, mac) + 6;
-    put_up(room, s, Reply::InfoAck(q), &tail[0..size])
-}
-
-// BIND_ACK: the fields, the address now bound.
-pub fn put_bind_ack(room: &mut [u8], s: u8, mac: [u8; 6], sap: u16, granted: u8) -> usize
-    requires { ⌜ 99 ≤ length (now room) ⌝ }
-    ensures { λ n. ⌜ (n ≡ 99) × (now (room .exit) ≡ over (bytesOf (up s (Reply.BindAck sap granted) (addressOf mac sap))) (now (room .entry))) ⌝ }
-{
-    let mut address = [0u8; 8];
-    let size = put_address(&mut address, mac, sap);
-    put_up(room, s, Reply::BindAck(sap, granted), &address[0..size])
+    let size = put_bound_address(room, q, mac);
+    octets::put_bytes(room, size, &[0xff, 0xff, 0xff, 0xff, 0xff, 0xff]);
+    size + 6
 }

@@ -1,74 +1,47 @@
-use Prim.Native.Nat.{ℕ}
+-- `call_enacting::put_reply` meets its contract: what the message up ends in is what stands behind its fields, which is at most 14 bytes.
+use Prim.Native.Nat.{ℕ, _-_}
 use native.Mathlib.Omega.{arith}
-use mathlib.Core.Path.{refl, ap, _∙_}
-use mathlib.Core.List.{List, []}
+use mathlib.Core.Path.{_≡_, ap, _∙_}
+use mathlib.Core.List.{List}
+use lib.ListN.{length, replicate}
 use denote.Ref.{now}
+use Rattle.octets.specs.Runs.{part, over}
 use Rattle.paper.specs.Base.{macAt}
-use Rattle.paper.specs.Replies.{addressOf, infoTail}
+use Rattle.paper.specs.RecordsOut.{up, bytesOf}
 use Rattle.paper.specs.Effects.{behindReply}
-use Rattle.paper.specs.declared.Reply.the-variants as reply
+use Rattle.paper.specs.declared.Reply.{Reply}
+use Rattle.paper.proofs.Tails.{tail-most}
 use Rattle.table_image.specs.Layout.{tableOf}
-use Rattle.octets.proofs.Laws.{part-most}
-use Rattle.call_enacting.proofs.Laws.{same-up, two-addresses, no-tail}
+use Rattle.call_outcomes.proofs.Laws.{mac-length}
+use Rattle.call_enacting.specs.Behind.{ownBehind, behindBy}
+use Rattle.call_enacting.proofs.Laws.{behind-reply, over-begins}
 use borrow.Author.Needs.{needs}
 use Rattle.call_enacting.proofs.put_reply.Statement.{statement}
 use Rattle.call_enacting.proofs.put_reply.Tie as tie
 
-put-up-requires : tie.Need-put-up-requires
-put-up-requires c κs = (rw (c .part-at .ensures) (part-most (now (c .before .before .before .before .before .before .before .args .m)) 5 14), search needs)
+-- n bytes of x, which begins with the stream's own address, or addresses of the event's record
+ends : (mac m l : List ℕ) (r : Reply) {n : ℕ} {x y : List ℕ} → n ≡ length (ownBehind mac r) → x ≡ over (ownBehind mac r) l
+    → y ≡ behindBy (part x 0 (n - 0)) m r → y ≡ behindReply mac m r
+ends mac m l r {n} en ex ey =
+    ey ∙ ap (λ (own : List ℕ). behindBy own m r) (over-begins (ownBehind mac r) l (n - 0) ex (omega arith)) ∙ behind-reply mac m r
 
-put-up-requires-2 : tie.Need-put-up-requires-2
-put-up-requires-2 c κs = (rw (c .part-at2 .ensures) (omega (arith, part-most (now (c .before .before .before .before .before .before .before .args .m)) 2 7)), search needs)
+put-up-requires : tie.Need-put-up-requires
+put-up-requires c κs =
+    let a = c .before .before .before .before .before .before .before .before .before .before in
+    let mac = macAt (tableOf (now (a .args .img))) (a .args .i) in
+    let m = now (a .args .m) in
+    let own = c .before .before .before .before .before .put-own-address .ensures in
+    let tail = ends mac m (replicate 14 0) (a .args .reply) (own .0) (own .2) (c .before .behind .ensures) in
+    (rw tail (tail-most mac (mac-length _ (a .pre .2 .shaped) _) m (a .args .reply)), search needs)
 
 returns : tie.Need-returns
-unfolding behindReply
 returns c =
-    let a = c .before .before .before .before .before .before .before .before .before .before .before .args in
+    let a = c .before .before .before .before .before .before .before .before .before .before .before .before .before .args in
     let mac = macAt (tableOf (now (a .img))) (a .i) in
-    let w = c .before .before .put-info-ack .ensures in
-    let told = c .before .before .before .before .before .before .reply .given in
-    let found = c .before .before .before .before .mac-at in
-    let tail : List ℕ → List ℕ = λ l. infoTail l (told .0 .0) in
-    (w .0, same-up (a .i) (a .reply) (reply.InfoAck (told .0 .0)) (tail (found .result)) mac (now (a .m)) (now (a .room)) _ (told .1) (w .1) (ap tail (found .ensures)))
-
-returns-2 : tie.Need-returns-2
-unfolding behindReply
-returns-2 c =
-    let a = c .before .before .before .before .before .before .before .before .before .before .before .args in
-    let mac = macAt (tableOf (now (a .img))) (a .i) in
-    let w = c .before .before .put-bind-ack .ensures in
-    let told = c .before .before .before .before .before .before .reply2 .given in
-    let found = c .before .before .before .before .mac-at2 in
-    let tail : List ℕ → List ℕ = λ l. addressOf l (told .0 .0) in
-    (w .0, same-up (a .i) (a .reply) (reply.BindAck (told .0 .0) (told .0 .1 .0)) (tail (found .result)) mac (now (a .m)) (now (a .room)) _ (told .1) (w .1) (ap tail (found .ensures)))
-
-returns-3 : tie.Need-returns-3
-unfolding behindReply
-returns-3 c =
-    let a = c .before .before .before .before .before .before .before .before .before .before .args in
-    let mac = macAt (tableOf (now (a .img))) (a .i) in
+    let own = c .before .before .before .before .before .before .before .before .put-own-address .ensures in
+    let tail = ends mac (now (a .m)) (replicate 14 0) (a .reply) (own .0) (own .2) (c .before .before .before .before .behind .ensures) in
     let w = c .before .before .put-up .ensures in
-    let told = c .before .before .before .before .before .enum-told .given in
-    let called = c .before .before .before .part-at in
-    (w .0, same-up (a .i) (a .reply) (a .reply) (now (called .result)) mac (now (a .m)) (now (a .room)) _ refl (w .1) (called .ensures ∙ rw (told .1) (two-addresses (now (a .m)))))
-
-returns-4 : tie.Need-returns-4
-unfolding behindReply
-returns-4 c =
-    let a = c .before .before .before .before .before .before .before .before .before .before .args in
-    let mac = macAt (tableOf (now (a .img))) (a .i) in
-    let w = c .before .before .put-up2 .ensures in
-    let told = c .before .before .before .before .before .enum-told2 .given in
-    let responding = c .before .before .before .part-at2 in
-    (w .0, same-up (a .i) (a .reply) (a .reply) (now (responding .result)) mac (now (a .m)) (now (a .room)) _ refl (w .1) (responding .ensures ∙ rw (told .1) refl))
-
-returns-5 : tie.Need-returns-5
-returns-5 c =
-    let a = c .before .before .before .before .before .before .before .before .before .args in
-    let mac = macAt (tableOf (now (a .img))) (a .i) in
-    let w = c .before .before .put-up3 .ensures in
-    let keys = c .before .before .before .before .before .match .keys5 in
-    (w .0, same-up (a .i) (a .reply) (a .reply) [] mac (now (a .m)) (now (a .room)) _ refl (w .1) (no-tail mac (now (a .m)) (a .reply) keys))
+    (w .0, w .1 ∙ ap (λ (l : List ℕ). over (bytesOf (up (a .i) (a .reply) l)) (now (a .room))) tail)
 
 pub put-reply-spec : {M : Type 1} → statement M
 put-reply-spec =
@@ -76,25 +49,10 @@ put-reply-spec =
     (tie.spec
     (λ c. search needs)
     (λ c κs. search needs)
-    (λ c κs. search needs)
     (λ c. search needs)
-    (λ c κs. search needs)
-    (λ c κs. search needs)
+    (λ c. search needs)
     (λ c. search needs)
     (λ c κs. search needs)
     put-up-requires
     (λ c. search needs)
-    (λ c κs. search needs)
-    put-up-requires-2
-    (λ c. search needs)
-    (λ c κs. search needs)
-    (λ c. search needs)
-    returns
-    (λ c. search needs)
-    returns-2
-    (λ c. search needs)
-    returns-3
-    (λ c. search needs)
-    returns-4
-    (λ c. search needs)
-    returns-5)
+    returns)

@@ -1,86 +1,59 @@
-use Prim.Native.Nat.{ℕ}
+-- Refusals 2, 5 and 4 in the definition's order; a message that passes them has its code, and is answered.
 use native.Mathlib.Omega.{arith}
 use mathlib.Core.Path.{sym, ap, _∙_}
 use mathlib.Core.Bool.{not}
-use mathlib.Core.List.{List}
 use denote.Ref.{now}
 use borrow.Author.Tests.{lt-ltb, le-ltb, not-false}
+use Rattle.ledger.specs.Choice.{_⇒_∣_}
+use Rattle.paper.specs.Step.{ofOpen, message}
 use Rattle.table_image.specs.Layout.{tableOf}
 use Rattle.table_lookup.proofs.Laws.{open-within}
-use Rattle.call_outcomes.proofs.Laws.{leaves-refused, where-true, where-false}
-use Rattle.call_outcomes.specs.Leaving.{left, leaving}
-use Rattle.paper.specs.Messages.{codeIn, askedBy}
-use Rattle.paper.specs.StateRows.{stateRows}
-use Rattle.paper.specs.Sight.{sends}
-use Rattle.paper.specs.Step.{comes, ofOpen, message}
 use borrow.Author.Needs.{needs}
 use Rattle.call_engine.proofs.message.Statement.{statement}
 use Rattle.call_engine.proofs.message.Tie as tie
-use Rattle.octets.proofs.Laws.{part-most}
 
 returns : tie.Need-returns
-unfolding ofOpen message
-returns c =
-    let a = c .before .before .before .before .before .before .before in
-    let img = now (a .args .img) in
-    let room = now (a .args .room) in
-    where-true img room _ _ (ap not (sym (c .before .before .is-open .ensures)) ∙ c .before .if1 .taken)
-    (leaves-refused img room (tableOf img) 2 _ (omega arith) (c .refused .ensures))
+unfolding ofOpen _⇒_∣_
+returns c = record { comes = rw (ap not (sym (c .before .is-open .ensures)) ∙ c .if1 .taken); fits = omega arith }
 
 returns-2 : tie.Need-returns-2
-unfolding ofOpen message
+unfolding ofOpen message _⇒_∣_
 returns-2 c =
-    let a = c .before .before .before .before .before .before .before .before in
-    let img = now (a .args .img) in
-    let room = now (a .args .room) in
-    where-false img room _ _ (ap not (sym (c .before .before .before .is-open .ensures)) ∙ c .before .before .if1 .left)
-    (where-true img room _ _ (lt-ltb _ _ (c .before .if2 .taken))
-    (leaves-refused img room (tableOf img) 5 _ (omega arith) (c .refused2 .ensures)))
+    let stood = c .before in
+    record { comes = rw (ap not (sym (stood .before .is-open .ensures)) ∙ stood .if1 .left, lt-ltb _ _ (c .if2 .taken)); fits = omega arith }
 
 returns-3 : tie.Need-returns-3
-unfolding ofOpen message
+unfolding ofOpen message _⇒_∣_
 returns-3 c =
-    let a = c .before .before .before .before .before .before .before .before .before in
-    let img = now (a .args .img) in
-    let room = now (a .args .room) in
-    where-false img room _ _ (ap not (sym (c .before .before .before .before .is-open .ensures)) ∙ c .before .before .before .if1 .left)
-    (where-false img room _ _ (le-ltb _ _ (c .before .before .if2 .left))
-    (where-true img room _ _ (lt-ltb _ _ (c .before .if3 .taken))
-    (leaves-refused img room (tableOf img) 4 _ (omega arith) (c .refused3 .ensures))))
+    let short = c .before in
+    let stood = short .before in
+    record {
+      comes = rw (ap not (sym (stood .before .is-open .ensures)) ∙ stood .if1 .left, le-ltb _ _ (short .if2 .left), lt-ltb _ _ (c .if3 .taken));
+      fits = omega arith;
+    }
 
 answer-requires : tie.Need-answer-requires
 answer-requires c κs =
-    let a = c .before .before .before .before .before .before .before .before .before .before .before in
-    (open-within (tableOf (now (a .args .img))) (a .pre .1 .shaped) (a .args .i) (sym (c .before .before .before .before .before .before .is-open .ensures) ∙ not-false _ (c .before .before .before .before .before .if1 .left)), a .pre .0, a .pre .1, a .pre .2, rw (c .part-at .ensures) (omega (arith, part-most (now (a .args .r)) 3 (a .args .l))))
+    let short = c .before in
+    let stood = short .before in
+    let a = stood .before .before .before .before in
+    let within = open-within (tableOf (now (a .args .img))) (a .pre .1 .shaped) (a .args .i) (sym (stood .before .is-open .ensures) ∙ not-false _ (stood .if1 .left)) in
+    let size = a .pre .2 (short .if2 .left) in
+    (within, a .pre .0, a .pre .1, omega (arith, size, c .if3 .left), omega (arith, size, short .if2 .left))
 
 returns-4 : tie.Need-returns-4
-unfolding ofOpen message
+unfolding ofOpen message _⇒_∣_
 returns-4 c =
-    let a = c .before .before .before .before .before .before .before .before .before .before .before .before .before .before .before .before in
-    let img = now (a .args .img) in
-    let room = now (a .args .room) in
-    let t = tableOf img in
-    where-false img room _ _ (ap not (sym (c .before .before .before .before .before .before .before .before .before .before .before .is-open .ensures)) ∙ c .before .before .before .before .before .before .before .before .before .before .if1 .left)
-    (where-false img room _ _ (le-ltb _ _ (c .before .before .before .before .before .before .before .before .before .if2 .left))
-    (where-false img room _ _ (le-ltb _ _ (c .before .before .before .before .before .before .before .before .if3 .left)) (c .before .before .before .before .answer .ensures
-    ∙ ap (λ (m : List ℕ). leaving img room (comes stateRows t (a .args .i) m (sends (codeIn m) (askedBy m)))) (c .before .before .before .before .before .part-at .ensures))))
+    let long = c .before in
+    let short = long .before in
+    let stood = short .before in
+    let answered = c .answer .ensures in
+    record {
+      comes =
+          answered .comes
+          ∙ sym (rw (ap not (sym (stood .before .is-open .ensures)) ∙ stood .if1 .left, le-ltb _ _ (short .if2 .left), le-ltb _ _ (long .if3 .left)));
+      fits = answered .fits;
+    }
 
 pub message-spec : {M : Type 1} → statement M
-message-spec =
-    tie.close
-    (tie.spec
-    (λ c κs. search needs)
-    (λ c κs. search needs)
-    (λ c. search needs)
-    returns
-    (λ c κs. search needs)
-    (λ c. search needs)
-    returns-2
-    (λ c κs. search needs)
-    (λ c. search needs)
-    returns-3
-    (λ c κs. search needs)
-    answer-requires
-    (λ c. search needs)
-    (λ c. search needs)
-    returns-4)
+message-spec = tie.close (tie.spec (λ c κs. search needs) returns returns-2 returns-3 answer-requires returns-4)

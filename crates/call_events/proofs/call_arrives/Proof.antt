@@ -1,82 +1,87 @@
+-- The three tests of refusal 7, in the definition's order; a call that passes them comes to the listener, with the next number.
 use Prim.Native.Nat.{ℕ}
 use native.Mathlib.Omega.{arith}
-use mathlib.Core.Path.{sym, ap, _∙_}
+use mathlib.Core.Path.{sym, ap, ap₂, _∙_}
 use mathlib.Core.Bool.{not}
 use denote.Ref.{now}
 use lib.Dec.{ltb}
 use borrow.Author.Tests.{lt-ltb, le-ltb}
+use Rattle.ledger.specs.Choice.{_⇒_∣_}
 use Rattle.paper.specs.Saps.{listener, isListenedFor}
 use Rattle.paper.specs.Refusals.{busy}
-use Rattle.paper.specs.Correlations.{nextNumber}
 use Rattle.paper.specs.StateRows.{stateRows}
 use Rattle.paper.specs.Sight.{brings}
 use Rattle.paper.specs.Step.{comes, arrives}
 use Rattle.paper.specs.declared.Event.the-variants as event
 use Rattle.table_image.specs.Layout.{tableOf}
-use Rattle.call_outcomes.specs.Leaving.{leaving}
-use Rattle.call_outcomes.proofs.Laws.{where-true, where-false, leaves-refused}
 use borrow.Author.Needs.{needs}
 use Rattle.call_events.proofs.call_arrives.Statement.{statement}
 use Rattle.call_events.proofs.call_arrives.Tie as tie
 
 returns : tie.Need-returns
-unfolding arrives
-returns c =
-    where-true _ _ _ _ (ap not (sym (c .before .before .knows .ensures)) ∙ c .before .if1 .taken)
-    (leaves-refused _ _ _ 7 _ (omega arith) (c .refused .ensures))
+unfolding arrives _⇒_∣_
+returns c = record { comes = rw (ap not (sym (c .before .knows .ensures)) ∙ c .if1 .taken); fits = omega arith }
 
 returns-2 : tie.Need-returns-2
-unfolding arrives
+unfolding arrives _⇒_∣_
 returns-2 c =
-    where-false _ _ _ _ (ap not (sym (c .before .before .before .before .before .knows .ensures)) ∙ c .before .before .before .before .if1 .left)
-    (where-true _ _ _ _ (ap not (sym (c .before .before .is-called .ensures)) ∙ c .before .if2 .taken)
-    (leaves-refused _ _ _ 7 _ (omega arith) (c .refused2 .ensures)))
+    let called = c .before in
+    let known = called .before in
+    record {
+      comes = rw (ap not (sym (known .before .knows .ensures)) ∙ known .if1 .left, ap not (sym (called .is-called .ensures)) ∙ c .if2 .taken);
+      fits = omega arith;
+    }
 
 returns-3 : tie.Need-returns-3
-unfolding arrives isListenedFor
+unfolding arrives isListenedFor _⇒_∣_
 returns-3 c =
-    let a = c .before .before .before .before .before .before .before .before .before .before .before .before .before .before in
-    where-false _ _ _ _ (ap not (sym (c .before .before .before .before .before .before .before .before .before .knows .ensures)) ∙ c .before .before .before .before .before .before .before .before .if1 .left)
-    (where-false _ _ _ _ (ap not (sym (c .before .before .before .before .before .before .is-called .ensures)) ∙ c .before .before .before .before .before .if2 .left)
-    (where-true _ _ _ _ (ap (λ (j : ℕ). not (ltb j 16)) (sym (c .before .before .listener .ensures ∙ ap (listener (tableOf (now (a .args .img))) (a .args .p)) (c .before .before .before .wide .ensures .0))) ∙ ap not (le-ltb _ _ (c .before .if3 .taken)))
-    (leaves-refused _ _ _ 7 _ (omega arith) (c .refused3 .ensures))))
-
-heard-by-requires : tie.Need-heard-by-requires
-heard-by-requires c κs =
-    let a = c .before .before .before .before .before .before .before .before .before .before .before .before .before .before .before in
-    (search needs, a .pre .0, a .pre .1, a .pre .2, a .pre .3 _)
+    let heard = c .before in
+    let called = heard .before .before in
+    let known = called .before .before in
+    let a = known .before .before .before .before in
+    let e = heard .listener .ensures ∙ ap (listener (tableOf (now (a .args .img))) (a .args .p)) (heard .before .wide .ensures .0) in
+    record {
+      comes =
+          rw (
+            ap not (sym (known .before .knows .ensures)) ∙ known .if1 .left,
+            ap not (sym (called .before .is-called .ensures)) ∙ called .if2 .left,
+            ap (λ (j : ℕ). not (ltb j 16)) (sym e) ∙ ap not (le-ltb _ _ (c .if3 .taken)),
+          );
+      fits = omega arith;
+    }
 
 returns-4 : tie.Need-returns-4
-unfolding arrives isListenedFor
+unfolding arrives isListenedFor _⇒_∣_
 returns-4 c =
-    let a = c .before .before .before .before .before .before .before .before .before .before .before .before .before .before .before .before .before .before .before .before in
+    let listened = c .before in
+    let heard = listened .before in
+    let called = heard .before .before in
+    let known = called .before .before in
+    let a = known .before .before .before .before in
     let t = tableOf (now (a .args .img)) in
-    let e = c .before .before .before .before .before .before .before .before .listener .ensures ∙ ap (listener (tableOf (now (a .args .img))) (a .args .p)) (c .before .before .before .before .before .before .before .before .before .wide .ensures .0) in
-    where-false _ _ _ _ (ap not (sym (c .before .before .before .before .before .before .before .before .before .before .before .before .before .before .before .knows .ensures)) ∙ c .before .before .before .before .before .before .before .before .before .before .before .before .before .before .if1 .left)
-    (where-false _ _ _ _ (ap not (sym (c .before .before .before .before .before .before .before .before .before .before .before .before .is-called .ensures)) ∙ c .before .before .before .before .before .before .before .before .before .before .before .if2 .left)
-    (where-false _ _ _ _ (ap (λ (j : ℕ). not (ltb j 16)) (sym e) ∙ ap not (lt-ltb _ _ (c .before .before .before .before .before .before .before .if3 .left)))
-    (c .before .before .before .before .heard-by .ensures
-    ∙ ap (λ (j : ℕ). leaving (now (a .args .img)) (now (a .args .room)) (comes stateRows t j (now (a .args .r)) (brings busy (event.Arrives (record { 0 = nextNumber t }))))) e)))
+    let e = heard .listener .ensures ∙ ap (listener t (a .args .p)) (heard .before .wide .ensures .0) in
+    record {
+      comes =
+          ap₂ (λ (j n : ℕ). comes stateRows t j (now (a .args .r)) (brings busy (event.Arrives (record { 0 = n })))) e (c .next-number .ensures)
+          ∙ rw (
+            ap not (sym (known .before .knows .ensures)) ∙ known .if1 .left,
+            ap not (sym (called .before .is-called .ensures)) ∙ called .if2 .left,
+            ap (λ (j : ℕ). not (ltb j 16)) (sym e) ∙ ap not (lt-ltb _ _ (listened .if3 .left)),
+          );
+      fits = (omega (arith, listened .if3 .left), omega arith);
+    }
 
 pub call-arrives-spec : {M : Type 1} → statement M
 call-arrives-spec =
     tie.close
     (tie.spec
     (λ c κs. search needs)
-    (λ c κs. search needs)
-    (λ c. search needs)
     returns
     (λ c κs. search needs)
-    (λ c κs. search needs)
-    (λ c. search needs)
     returns-2
     (λ c κs. search needs)
     (λ c κs. search needs)
-    (λ c κs. search needs)
-    (λ c. search needs)
     returns-3
-    (λ c. search needs)
-    heard-by-requires
-    (λ c. search needs)
+    (λ c κs. search needs)
     (λ c. search needs)
     returns-4)

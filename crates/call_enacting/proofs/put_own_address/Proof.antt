@@ -1,0 +1,47 @@
+-- `call_enacting::put_own_address` meets its contract: each of the two messages has what ends it by the MAC found, and no other has any.
+use native.Mathlib.Omega.{arith}
+use mathlib.Core.Path.{refl}
+use denote.Ref.{now}
+use Rattle.paper.specs.Base.{macAt}
+use Rattle.table_image.specs.Layout.{tableOf}
+use Rattle.call_enacting.specs.Behind.{ownBehind}
+use Rattle.call_enacting.proofs.Laws.{not-own}
+use borrow.Author.Needs.{needs}
+use Rattle.call_enacting.proofs.put_own_address.Statement.{statement}
+use Rattle.call_enacting.proofs.put_own_address.Tie as tie
+
+returns : tie.Need-returns
+unfolding ownBehind
+returns c =
+    let told = c .before .before .before .before .before .before .reply .given in
+    let found = c .before .before .before .before .mac-at in
+    rw (told .1, ← found .ensures) (c .before .before .put-info-tail .ensures)
+
+returns-2 : tie.Need-returns-2
+unfolding ownBehind
+returns-2 c =
+    let told = c .before .before .before .before .before .before .reply2 .given in
+    let found = c .before .before .before .before .mac-at2 in
+    let w = c .before .before .put-address .ensures in
+    rw (told .1, ← found .ensures) (w .0, omega (arith, w .1), w .2)
+
+returns-3 : tie.Need-returns-3
+returns-3 c =
+    let a = c .before .before .before .args in
+    rw (not-own (macAt (tableOf (now (a .img))) (a .i)) (a .reply) (c .match .keys3)) (refl, omega arith, refl)
+
+pub put-own-address-spec : {M : Type 1} → statement M
+put-own-address-spec =
+    tie.close
+    (tie.spec
+    (λ c. search needs)
+    (λ c κs. search needs)
+    (λ c κs. search needs)
+    (λ c. search needs)
+    (λ c κs. search needs)
+    (λ c κs. search needs)
+    (λ c. search needs)
+    returns
+    (λ c. search needs)
+    returns-2
+    returns-3)

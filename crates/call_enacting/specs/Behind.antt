@@ -1,0 +1,33 @@
+-- What stands behind the fields of a message up, by where it comes from.
+use Prim.Native.Nat.{ℕ}
+use mathlib.Core.List.{List, []}
+use Rattle.octets.specs.Runs.{part}
+use Rattle.paper.specs.Replies.{addressOf, infoTail}
+use Rattle.paper.specs.declared.Reply.{Reply}
+use Rattle.paper.specs.declared.Reply.the-variants as reply
+
+-- the stream's own address, where the message ends in it
+unfoldable pub ownBehind : List ℕ → Reply → List ℕ
+ownBehind mac (reply.InfoAck s) = infoTail mac s
+ownBehind mac (reply.BindAck sap granted) = addressOf mac sap
+ownBehind mac (reply.ErrorAck code error) = []
+ownBehind mac (reply.OkAck code) = []
+ownBehind mac (reply.ConnectInd n) = []
+ownBehind mac reply.ConnectCon = []
+ownBehind mac (reply.TokenAck k) = []
+ownBehind mac (reply.DisconnectInd reason n) = []
+ownBehind mac (reply.ResetInd reason) = []
+ownBehind mac reply.ResetCon = []
+
+-- the addresses of the event's record m, where the message ends in them, and the stream's own where not
+unfoldable pub behindBy : List ℕ → List ℕ → Reply → List ℕ
+behindBy own m (reply.InfoAck s) = own
+behindBy own m (reply.BindAck sap granted) = own
+behindBy own m (reply.ErrorAck code error) = own
+behindBy own m (reply.OkAck code) = own
+behindBy own m (reply.ConnectInd n) = part m 5 14
+behindBy own m reply.ConnectCon = part m 2 7
+behindBy own m (reply.TokenAck k) = own
+behindBy own m (reply.DisconnectInd reason n) = own
+behindBy own m (reply.ResetInd reason) = own
+behindBy own m reply.ResetCon = own

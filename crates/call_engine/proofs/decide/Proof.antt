@@ -1,0 +1,48 @@
+-- A message is decided by what stands in it, and one over 96 bytes whatever that is; what else comes to a stream is the line's.
+use mathlib.Core.Path.{sym, ap, subst, _∙_}
+use mathlib.Core.List.{List}
+use Prim.Native.Nat.{ℕ}
+use denote.Ref.{now}
+use Rattle.paper.specs.StateRows.{stateRows}
+use Rattle.paper.specs.Step.{serveBy}
+use Rattle.table_image.specs.Layout.{tableOf}
+use Rattle.table_soundness.proofs.Slots.{sound-lent}
+use Rattle.call_outcomes.specs.Deciding.{Rightly}
+use Rattle.call_engine.proofs.Laws.{granted-few, read-size, any-message, from-line}
+use borrow.Author.Needs.{needs}
+use Rattle.call_engine.proofs.decide.Statement.{statement}
+use Rattle.call_engine.proofs.decide.Tie as tie
+
+message-requires : tie.Need-message-requires
+message-requires c κs =
+    let told = c .before in
+    let a = told .before .before .before .before .before in
+    (a .pre .0, sound-lent (now (a .args .img)) (a .pre .1), read-size _ _ _ _ _ (told .q .given .1) (a .pre .2) (a .pre .4))
+
+occur-requires : tie.Need-occur-requires
+occur-requires c κs =
+    let a = c .before .before .before .before in
+    let img = now (a .args .img) in
+    (a .pre .0, sound-lent img (a .pre .1), granted-few img (a .pre .1), from-line (a .args .q) (a .pre .3) (c .match .keys2))
+
+returns : tie.Need-returns
+returns c =
+    let told = c .before .before in
+    let a = told .before .before .before .before .before in
+    let decided = c .message .ensures in
+    record {
+      comes = decided .comes ∙ any-message (tableOf (now (a .args .img))) _ _ _ _ _ (told .q .given .1) (a .pre .4);
+      fits = decided .fits;
+    }
+
+returns-2 : tie.Need-returns-2
+returns-2 c =
+    let kept = c .before in
+    let a = kept .before .before .before .before in
+    let t = tableOf (now (a .args .img)) in
+    subst (λ (m : List ℕ). Rightly t m (c .occur .result) (serveBy stateRows t (now (a .args .r)) (a .args .q)))
+    (sym (a .pre .4 .event (from-line (a .args .q) (a .pre .3) (kept .match .keys2))))
+    (c .occur .ensures)
+
+pub decide-spec : {M : Type 1} → statement M
+decide-spec = tie.close (tie.spec (λ c. search needs) message-requires occur-requires returns returns-2)
