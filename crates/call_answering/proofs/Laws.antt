@@ -1,14 +1,14 @@
 -- What comes to a stream is decided by its state row: with the row known, the decision is what is enacted.
 use Prim.Native.Nat.{ℕ, _+_}
 use native.Mathlib.Numerals.{add-one}
-use mathlib.Core.Path.{_≡_, refl, sym, ap, ap₂, _∙_}
+use mathlib.Core.Path.{_≡_, refl, sym, ap, _∙_}
 use mathlib.Core.Bool.{true, false, false≢true}
 use mathlib.Core.List.{List}
 use lib.Dec.{eqb}
 use Rattle.ledger.proofs.Tallies.{picked}
-use Rattle.paper.specs.Base.{Table, slot, stream, macAt}
+use Rattle.paper.specs.Base.{Table, stream}
 use Rattle.paper.specs.RecordsOut.{inOrder}
-use Rattle.paper.specs.Refusals.{Outcome, served}
+use Rattle.paper.specs.Refusals.{Outcome}
 use Rattle.paper.specs.StateRows.{stateRows, found}
 use Rattle.paper.specs.Sight.{Question, nothing, sends, requestAsks, sightBy}
 use Rattle.paper.specs.Effects.{changed, carried, enacted, ordersIn, upsIn, told, onward, unchanged, effectOf, errorEffect}
@@ -50,13 +50,13 @@ module _ (t : Table) (i : ℕ) (m : List ℕ) (code : ℕ) where
   wrong r e z = ap (doing i) z ∙ error-enacted (found stateRows (stream t i) code) nothing r
 
   -- a request, by the row that was found
-  module _ (q : Request) (s : Stream) (n : ℕ) (f : Found) (es : s ≡ stream t i) (en : n ≡ requestAsks q .cause) (ef : f ≡ found stateRows s n) where
+  module _ (q : Request) (s : Stream) (f : Found) (es : s ≡ stream t i) (ef : f ≡ found stateRows s (requestAsks q .cause)) where
     by-found : (g : Found) → f ≡ g
         → enact t i m (sightBy t i g (requestAsks q .question)) (decideBy (sightBy t i g (requestAsks q .question)) (sends code (For q)) g) ≡ comes stateRows t i m (sends code (For q))
     unfolding comes
     by-found g h =
         ap (λ (g : Found). enact t i m (sightBy t i g (requestAsks q .question)) (decideBy (sightBy t i g (requestAsks q .question)) (sends code (For q)) g))
-        (sym h ∙ ef ∙ ap₂ (λ (s : Stream) (n : ℕ). found stateRows s n) es en)
+        (sym h ∙ ef ∙ ap (λ (s : Stream). found stateRows s (requestAsks q .cause)) es)
 
     pub no-row : (e : Effect) → f ≡ Missing → e ≡ errorEffect code rule.NoRow → doing i e ≡ comes stateRows t i m (sends code (For q))
     unfolding decideBy effectBy

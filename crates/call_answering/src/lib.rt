@@ -6,7 +6,7 @@ ghost use lib.ListN.{length};
 ghost use Rattle.paper.specs.Base.{stream};
 ghost use Rattle.paper.specs.Messages.{codeIn, askedBy};
 ghost use Rattle.paper.specs.StateRows.{stateRows};
-ghost use Rattle.paper.specs.Sight.{sends, requestAsks, carrierAt};
+ghost use Rattle.paper.specs.Sight.{sends, carrierAt};
 ghost use Rattle.paper.specs.Step.{comes};
 ghost use Rattle.paper.specs.declared.Asked.the-variants as asked;
 ghost use Rattle.paper.specs.declared.Request.the-variants as request;
@@ -114,25 +114,6 @@ fn judged_request(img: &[u8], i: u8, s: Stream, q: Request) -> Judgement
 
 // ---- a message of stream i
 
-// A request's cause in the state rows: its code.
-fn cause_of(q: Request) -> u8
-    ensures { λ r. ⌜ r ≡ requestAsks q .cause ⌝ }
-{
-    match q {
-        Request::Info => 0x00,
-        Request::Token => 0x11,
-        Request::Attach(_) => 0x0b,
-        Request::Detach => 0x0c,
-        Request::Bind(_) => 0x01,
-        Request::Unbind => 0x02,
-        Request::Connect(_) => 0x0d,
-        Request::ConnectRes(_) => 0x0f,
-        Request::Disconnect(_) => 0x13,
-        Request::Reset => 0x17,
-        Request::ResetRes => 0x19,
-    }
-}
-
 // Step 2 of the order of errors, then the others; a request that they let pass is served by its state row. (Which message it
 // is read from is not asked.)
 fn answer_request(img: &[u8], i: u8, code: u32, q: Request) -> Decided
@@ -140,7 +121,7 @@ fn answer_request(img: &[u8], i: u8, code: u32, q: Request) -> Decided
     ensures { λ r. ⌜ ((m : List ℕ) → Rightly (tableOf (now (img .entry))) m r (comes stateRows (tableOf (now (img .entry))) i m (sends code (asked.For q)))) ⌝ }
 {
     let s = table_image::load_stream(img, i as usize);
-    let found = paper_rows::row_for(s, cause_of(q));
+    let found = paper_rows::request_row(s, q);
     match found {
         Found::Missing => Decided::Does(i, i, paper_effects::error_effect(code, Rule::NoRow)),
         Found::At(x) => {

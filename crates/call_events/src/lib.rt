@@ -9,7 +9,7 @@ ghost use Rattle.paper.specs.Base.{slot, stream, macOf};
 ghost use Rattle.paper.specs.RecordsIn.{calledIn};
 ghost use Rattle.paper.specs.Refusals.{unexpected};
 ghost use Rattle.paper.specs.StateRows.{stateRows};
-ghost use Rattle.paper.specs.Sight.{brings, letterOf};
+ghost use Rattle.paper.specs.Sight.{brings};
 ghost use Rattle.paper.specs.Decide.{isDue};
 ghost use Rattle.paper.specs.Step.{comes, ofOpen, arrives, serveBy};
 ghost use Rattle.table_image.specs.Layout.{tableOf};
@@ -31,20 +31,6 @@ use paper::PpaNumber;
 use paper::Stream;
 
 // ---- the row by which an event may come
-
-// An event's cause in the state rows: its letter.
-fn letter_of(event: Event) -> u8
-    ensures { λ r. ⌜ r ≡ letterOf event ⌝ }
-{
-    match event {
-        Event::Arrives(_) => b'I',
-        Event::Accepted => b'A',
-        Event::Gone(_) => b'D',
-        Event::Withdrawn(_, _) => b'W',
-        Event::Resets(_) => b'R',
-        Event::Confirmed => b'S',
-    }
-}
 
 // I: the listener has less than its granted count open. W: the number is open on that stream.
 fn is_due(img: &[u8], i: u8, s: Stream, event: Event) -> bool
@@ -72,7 +58,7 @@ fn row_of(img: &[u8], i: u8, s: Stream, event: Event) -> Found
     if !is_due(img, i, s, event) {
         return Found::Missing;
     }
-    paper_rows::row_for(s, letter_of(event))
+    paper_rows::event_row(s, event)
 }
 
 // An event of stream i: what its row says, or the refusal.

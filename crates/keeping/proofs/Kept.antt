@@ -31,8 +31,7 @@ use Rattle.paper.specs.declared.Event.{Event}
 use Rattle.paper.specs.declared.Found.the-variants.{At}
 use Rattle.paper.proofs.RowFound.{row-from}
 use Rattle.paper.proofs.Fair.{Fair, informs, tellsToken, attaches, detaches, binds, unbinds, connects, acceptsHere, acceptsOn, denies, disconnects, resets, answersReset}
-use Rattle.paper.proofs.Walk.{done, failing, serving, Brings, arriving, accepted, gone, withdrawn, reset, confirmed}
-use Rattle.paper.proofs.Walk.{Way, refusing, adding, opening, closing, answering, bringing, step-walk}
+use Rattle.paper.proofs.Walk.{done, failing, serving, Brings, arriving, accepted, gone, withdrawn, reset, confirmed, Way, refusing, adding, opening, closing, answering, bringing, step-walk}
 use Rattle.keeping.specs.Soundness.{Bytes, Sound}
 use Rattle.keeping.specs.RowsFit.{toState, lastState, mayTake, mayLose, enders, fitsStaying, fitsMoving, fitsDisconnecting, fitsAttaching, fitsBinding, fitsTaking, fitsLosing, RowsFit}
 use Rattle.keeping.proofs.Changes.{bound-attached, opened, in-nine, ok-closed}

@@ -1,48 +1,52 @@
-// The state rows in code, and a stream's row for what comes. No list is walked, and none is held: the cause leads to its row,
+// The state rows in code, and a stream's row for what comes. No list is walked, and none is held: what comes leads to its row,
 // or, where it has several, the state and the mode lead to the one that can be meant; that row's state and mode are tested.
 ghost use mathlib.Core.Path.{_≡_};
 ghost use mathlib.Core.List.{[], _∷_, map};
 ghost use Prim.Native.Nat.{ℕ};
+ghost use Rattle.paper.specs.Base.{number};
 ghost use Rattle.paper.specs.StateRows.{stays, seats, stateRows, foundIn, found};
+ghost use Rattle.paper.specs.Sight.{requestAsks, letterOf};
 ghost use Rattle.paper_rows.specs.Courses.{along};
+use paper::Event;
 use paper::Found;
+use paper::Request;
 use paper::StateRow;
 use paper::Stream;
 
-// ---- what comes to a stream: a request, by its code, or an event, by its letter
-const INFO_REQ: u8 = 0x00;
+// ---- what comes to a stream
 
-const BIND_REQ: u8 = 0x01;
+// A request, by its code.
+fn code_of(q: Request) -> u8
+    ensures { λ r. ⌜ r ≡ requestAsks q .cause ⌝ }
+{
+    match q {
+        Request::Info => 0x00,
+        Request::Token => 0x11,
+        Request::Attach(_) => 0x0b,
+        Request::Detach => 0x0c,
+        Request::Bind(_) => 0x01,
+        Request::Unbind => 0x02,
+        Request::Connect(_) => 0x0d,
+        Request::ConnectRes(_) => 0x0f,
+        Request::Disconnect(_) => 0x13,
+        Request::Reset => 0x17,
+        Request::ResetRes => 0x19,
+    }
+}
 
-const UNBIND_REQ: u8 = 0x02;
-
-const ATTACH_REQ: u8 = 0x0b;
-
-const DETACH_REQ: u8 = 0x0c;
-
-const CONNECT_REQ: u8 = 0x0d;
-
-const CONNECT_RES: u8 = 0x0f;
-
-const TOKEN_REQ: u8 = 0x11;
-
-const DISCONNECT_REQ: u8 = 0x13;
-
-const RESET_REQ: u8 = 0x17;
-
-const RESET_RES: u8 = 0x19;
-
-const CALL_ARRIVES: u8 = b'I';
-
-const PEER_ACCEPTED: u8 = b'A';
-
-const PEER_GONE: u8 = b'D';
-
-const CALL_WITHDRAWN: u8 = b'W';
-
-const PEER_RESET: u8 = b'R';
-
-const RESET_CONFIRMED: u8 = b'S';
+// An event, by its letter.
+fn letter_of(event: Event) -> u8
+    ensures { λ r. ⌜ r ≡ letterOf event ⌝ }
+{
+    match event {
+        Event::Arrives(_) => b'I',
+        Event::Accepted => b'A',
+        Event::Gone(_) => b'D',
+        Event::Withdrawn(_, _) => b'W',
+        Event::Resets(_) => b'R',
+        Event::Confirmed => b'S',
+    }
+}
 
 // ---- the rows
 
@@ -52,8 +56,6 @@ enum Course {
     Leads(u8, u8, u8),
     // an open indication goes; the last state is for the last one
     Loses(u8, u8, u8, u8),
-    // there is none
-    Nowhere,
 }
 
 // INFO_REQ and TOKEN_REQ: every state, unchanged.
@@ -77,28 +79,28 @@ fn stays(state: u8, mode: u8) -> Course
     }
 }
 
-// The one row that a cause can have in a state and a mode. (The last of several stands for every other state: it is tested.)
-fn course_of(state: u8, mode: u8, cause: u8) -> Course
-    ensures { λ r. ⌜ along r state mode cause ≡ foundIn stateRows state mode cause ⌝ }
+// The one row that a request can have in a state and a mode. (The last of several stands for every other state: it is tested.)
+fn request_course(state: u8, mode: u8, q: Request) -> Course
+    ensures { λ r. ⌜ along r state mode (requestAsks q .cause) ≡ foundIn stateRows state mode (requestAsks q .cause) ⌝ }
 {
-    match cause {
-        INFO_REQ => stays(state, mode),
-        TOKEN_REQ => stays(state, mode),
+    match q {
+        Request::Info => stays(state, mode),
+        Request::Token => stays(state, mode),
         // ATTACH 0 to 3, DETACH 3 to 0, BIND 3 to 6, UNBIND 6 to 3
-        ATTACH_REQ => Course::Leads(0, 0, 3),
-        DETACH_REQ => Course::Leads(0, 3, 0),
-        BIND_REQ => Course::Leads(0, 3, 6),
-        UNBIND_REQ => {
+        Request::Attach(_) => Course::Leads(0, 0, 3),
+        Request::Detach => Course::Leads(0, 3, 0),
+        Request::Bind(_) => Course::Leads(0, 3, 6),
+        Request::Unbind => {
             if mode == 1 {
                 return Course::Leads(1, 6, 3);
             }
             Course::Leads(2, 6, 3)
         }
         // On a stream bound in mode 1: CONNECT_REQ 6 to 8; CONNECT_RES from 9
-        CONNECT_REQ => Course::Leads(1, 6, 8),
-        CONNECT_RES => Course::Loses(1, 9, 9, 6),
+        Request::Connect(_) => Course::Leads(1, 6, 8),
+        Request::ConnectRes(_) => Course::Loses(1, 9, 9, 6),
         // DISCONNECT_REQ from 8, 9, 11, 12, 13: a denial leads to 6 or 9, and other disconnects to 6
-        DISCONNECT_REQ => match state {
+        Request::Disconnect(_) => match state {
             8 => Course::Leads(1, 8, 6),
             9 => Course::Loses(1, 9, 9, 6),
             11 => Course::Leads(1, 11, 6),
@@ -106,28 +108,35 @@ fn course_of(state: u8, mode: u8, cause: u8) -> Course
             _ => Course::Leads(1, 13, 6),
         },
         // RESET_REQ 11 to 12; RESET_RES 13 to 11
-        RESET_REQ => Course::Leads(1, 11, 12),
-        RESET_RES => Course::Leads(1, 13, 11),
-        // Events: I 6 or 9 to 9
-        CALL_ARRIVES => match state {
+        Request::Reset => Course::Leads(1, 11, 12),
+        Request::ResetRes => Course::Leads(1, 13, 11),
+    }
+}
+
+// The one row that an event can have in a state; all are on streams bound in mode 1.
+fn event_course(state: u8, event: Event) -> Course
+    ensures { λ r. ⌜ ((mode : ℕ) → along r state mode (letterOf event) ≡ foundIn stateRows state mode (letterOf event)) ⌝ }
+{
+    match event {
+        // I 6 or 9 to 9
+        Event::Arrives(_) => match state {
             6 => Course::Leads(1, 6, 9),
             _ => Course::Leads(1, 9, 9),
         },
         // A 8 to 11
-        PEER_ACCEPTED => Course::Leads(1, 8, 11),
+        Event::Accepted => Course::Leads(1, 8, 11),
         // D 8, 11, 12, 13 to 6
-        PEER_GONE => match state {
+        Event::Gone(_) => match state {
             8 => Course::Leads(1, 8, 6),
             11 => Course::Leads(1, 11, 6),
             12 => Course::Leads(1, 12, 6),
             _ => Course::Leads(1, 13, 6),
         },
         // W: a listener that loses an open indication goes to 6 at the last one
-        CALL_WITHDRAWN => Course::Loses(1, 9, 9, 6),
+        Event::Withdrawn(_, _) => Course::Loses(1, 9, 9, 6),
         // R 11 to 13, S 12 to 11
-        PEER_RESET => Course::Leads(1, 11, 13),
-        RESET_CONFIRMED => Course::Leads(1, 12, 11),
-        _ => Course::Nowhere,
+        Event::Resets(_) => Course::Leads(1, 11, 13),
+        Event::Confirmed => Course::Leads(1, 12, 11),
     }
 }
 
@@ -146,12 +155,12 @@ fn row_in(x: StateRow, state: u8, mode: u8) -> Found
     Found::At(x)
 }
 
-pub fn row_for(s: Stream, cause: u8) -> Found
-    ensures { λ r. ⌜ r ≡ found stateRows s cause ⌝ }
+// A row of this cause, if it is the stream's.
+fn row_along(s: Stream, cause: u8, course: Course) -> Found
+    ensures { λ r. ⌜ r ≡ along course (number s) (s .mode) cause ⌝ }
 {
     let q = s.state;
     let state = paper::number_of(q);
-    let course = course_of(state, s.mode, cause);
     match course {
         Course::Leads(mode, from, to) => {
             let x = StateRow {
@@ -173,6 +182,21 @@ pub fn row_for(s: Stream, cause: u8) -> Found
             };
             row_in(x, state, s.mode)
         }
-        Course::Nowhere => Found::Missing,
     }
+}
+
+pub fn request_row(s: Stream, q: Request) -> Found
+    ensures { λ r. ⌜ r ≡ found stateRows s (requestAsks q .cause) ⌝ }
+{
+    let state = s.state;
+    let course = request_course(paper::number_of(state), s.mode, q);
+    row_along(s, code_of(q), course)
+}
+
+pub fn event_row(s: Stream, event: Event) -> Found
+    ensures { λ r. ⌜ r ≡ found stateRows s (letterOf event) ⌝ }
+{
+    let state = s.state;
+    let course = event_course(paper::number_of(state), event);
+    row_along(s, letter_of(event), course)
 }

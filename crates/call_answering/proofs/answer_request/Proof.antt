@@ -11,14 +11,13 @@ use Rattle.call_answering.proofs.answer_request.Tie as tie
 returns : tie.Need-returns
 returns c =
     let found = c .before .before .before in
-    let asked = found .before in
-    let stood = asked .before in
+    let stood = found .before in
     let a = stood .before .before in
     let effect = c .error-effect .ensures in
     λ m. record {
       comes =
-          no-row (tableOf (now (a .args .img))) (a .args .i) m (a .args .code) (a .args .q) _ _ _ (stood .load-stream .ensures)
-          (asked .cause-of .ensures) (found .row-for .ensures) _ (c .before .enum-told .given .1) effect;
+          no-row (tableOf (now (a .args .img))) (a .args .i) m (a .args .code) (a .args .q) _ _ (stood .load-stream .ensures)
+          (found .request-row .ensures) _ (c .before .enum-told .given .1) effect;
       fits = (a .pre .0, no-place _ _ effect refl);
     }
 
@@ -26,14 +25,13 @@ returns-2 : tie.Need-returns-2
 returns-2 c =
     let told = c .before .before .before in
     let found = told .before .before in
-    let asked = found .before in
-    let stood = asked .before in
+    let stood = found .before in
     let a = stood .before .before in
     let effect = c .effect-by .ensures in
     λ m. record {
       comes =
-          by-row (tableOf (now (a .args .img))) (a .args .i) m (a .args .code) (a .args .q) _ _ _ (stood .load-stream .ensures)
-          (asked .cause-of .ensures) (found .row-for .ensures) _ _ _ (told .found .given .1) (c .before .judged-request .ensures) effect;
+          by-row (tableOf (now (a .args .img))) (a .args .i) m (a .args .code) (a .args .q) _ _ (stood .load-stream .ensures)
+          (found .request-row .ensures) _ _ _ (told .found .given .1) (c .before .judged-request .ensures) effect;
       fits = (a .pre .0, no-place _ _ effect (message-takes _ _ _ _ _));
     }
 
@@ -41,7 +39,6 @@ pub answer-request-spec : {M : Type 1} → statement M
 answer-request-spec =
     tie.close
     (tie.spec
-    (λ c κs. search needs)
     (λ c κs. search needs)
     (λ c κs. search needs)
     (λ c. search needs)

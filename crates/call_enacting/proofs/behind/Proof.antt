@@ -1,6 +1,5 @@
 -- `call_enacting::behind` meets its contract: each of the two messages has its part of the record, and the others keep the stream's own.
 use denote.Ref.{now}
-use mathlib.Core.Path.{_∙_}
 use Rattle.call_enacting.specs.Behind.{behindBy}
 use Rattle.call_enacting.proofs.Laws.{not-event}
 use borrow.Author.Needs.{needs}

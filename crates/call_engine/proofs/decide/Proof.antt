@@ -1,5 +1,5 @@
 -- A message is decided by what stands in it, and one over 96 bytes whatever that is; what else comes to a stream is the line's.
-use mathlib.Core.Path.{sym, ap, subst, _∙_}
+use mathlib.Core.Path.{sym, subst, _∙_}
 use mathlib.Core.List.{List}
 use Prim.Native.Nat.{ℕ}
 use denote.Ref.{now}

@@ -1,6 +1,5 @@
 -- An opening is served for itself; what comes to a stream is decided first, and then concluded.
 use Prim.Native.Nat.{ℕ}
-use native.Mathlib.Omega.{arith}
 use mathlib.Core.Path.{ap, _∙_}
 use mathlib.Core.List.{List}
 use denote.Ref.{now}

@@ -11,8 +11,10 @@ returns c = rw (sym (c .before .is-due .ensures) ∙ not-true _ (c .if1 .taken))
 
 returns-2 : tie.Need-returns-2
 unfolding _⇒_∣_
-returns-2 c = rw (sym (c .before .before .before .is-due .ensures) ∙ not-false _ (c .before .before .if1 .left), sym (c .before .before .before .before .before .pre .3), sym (c .before .letter-of .ensures)) (c .row-for .ensures)
+returns-2 c =
+    let tested = c .before in
+    let begun = tested .before .before .before in
+    rw (sym (tested .before .is-due .ensures) ∙ not-false _ (tested .if1 .left), sym (begun .pre .3)) (c .event-row .ensures)
 
 pub row-of-spec : {M : Type 1} → statement M
-row-of-spec =
-    tie.close (tie.spec (λ c κs. search needs) returns (λ c κs. search needs) (λ c κs. search needs) returns-2)
+row-of-spec = tie.close (tie.spec (λ c κs. search needs) returns (λ c κs. search needs) returns-2)
