@@ -234,13 +234,14 @@ fn is_single(numbers: &[u32], n: u32) -> bool
     occurs_in(numbers, n) <= 1
 }
 
+// Each is looked for among those from it on alone.
 fn are_single(numbers: &[u32]) -> bool
     requires { ⌜ length (now numbers) ≤ 128 ⌝ }
     ensures { λ r. ⌜ r ≡ areSingle (now (numbers .entry)) ⌝ }
 {
     let mut k: usize = 0;
     while k < numbers.len() {
-        if !is_single(numbers, numbers[k]) {
+        if !is_single(&numbers[k..], numbers[k]) {
             return false;
         }
         k += 1;
