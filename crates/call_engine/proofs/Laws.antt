@@ -10,7 +10,7 @@ use types.Run.{OneOf, miss}
 use denote.Enum.Declared.{tagOf}
 use borrow.Author.Tests.{eqb-true, leb-true, ltb-false}
 use Rattle.ledger.specs.Choice.{pick, both, either, _⇒_∣_}
-use Rattle.ledger.proofs.Tallies.{both-of, skip, all-at, of-either}
+use Rattle.ledger.proofs.Tallies.{both-of, skip, all-at, of-either, nth}
 use Rattle.paper.specs.Base.{isAmong, boundStates, Slot, closed, Table, slot, stream, ppaNumbers}
 use Rattle.paper.specs.RecordsIn.{inputOf, messageIn}
 use Rattle.paper.specs.Refusals.{littleRoom, notARecord, notSound, refused}
@@ -46,10 +46,10 @@ bind-few s h =
     (λ e. omega (arith, eqb-true (s .granted) 0 (both-of (either (isSap (s .sap)) (isType (s .sap))) _ (both-of (eqb (s .mode) 2) _ e .1) .1)))
 
 unbound-few : (s : Stream) → every (unbound s) ≡ true → s .granted ≤ 8
-unbound-few s h = omega (arith, eqb-true (s .granted) 0 (all-at (λ (b : Bool). b) true refl (unbound s) h 2))
+unbound-few s h = omega (arith, eqb-true (s .granted) 0 (nth (unbound s) h 2))
 
 open-few : (ppas : List ℕ) (x : Slot) → every (openTests ppas x) ≡ true → x .stream .granted ≤ 8
-open-few ppas x h = go (isAmong boundStates (x .stream)) (all-at (λ (b : Bool). b) true refl (openTests ppas x) h 1)
+open-few ppas x h = go (isAmong boundStates (x .stream)) (nth (openTests ppas x) h 1)
   where
     go : (b : Bool) → pick b (asBindAllows (x .stream)) (every (unbound (x .stream))) ≡ true → x .stream .granted ≤ 8
     go true e = bind-few (x .stream) e
@@ -57,7 +57,7 @@ open-few ppas x h = go (isAmong boundStates (x .stream)) (all-at (λ (b : Bool).
 
 table-few : (t : Table) → sound t ≡ true → (i : ℕ) → stream t i .granted ≤ 8
 unfolding sound soundSlot holdsNothing
-table-few t h i = go (slot t i .isOpen) refl (all-at (soundSlot (ppaNumbers t)) closed refl (t .slots) (all-at (λ (b : Bool). b) true refl (soundTests t) h 2) i)
+table-few t h i = go (slot t i .isOpen) refl (all-at (soundSlot (ppaNumbers t)) closed refl (t .slots) (nth (soundTests t) h 2) i)
   where
     go : (b : Bool) → slot t i .isOpen ≡ b → pick b (every (openTests (ppaNumbers t) (slot t i))) (holdsNothing (slot t i)) ≡ true → stream t i .granted ≤ 8
     go true e p = open-few (ppaNumbers t) (slot t i) p

@@ -6,6 +6,7 @@ use mathlib.Core.List.{List, [], _∷_, _++_}
 use lib.ListN.{replicate}
 use lib.Dec.{ltb}
 use borrow.Author.Tests.{lt-ltb}
+use Rattle.octets.specs.Runs.{Bytes}
 use Rattle.ledger.specs.Choice.{_⇒_∣_}
 use Rattle.ledger.proofs.Tallies.{at-all}
 use Rattle.paper.specs.Base.{fresh}
@@ -16,7 +17,6 @@ use Rattle.fates_book.specs.declared.Line.{Line}
 use Rattle.fates_register.specs.Register.{blank, entered, enteredAll}
 use Rattle.promises.specs.History.{saidBy, lines}
 use Rattle.promises.specs.Harness.{Lending, imageAfter, heard, Harness, heardIn, nextIn, andThen}
-use Rattle.keeping.specs.Soundness.{Bytes}
 use Rattle.promises.proofs.Demand3.{stays-lent}
 use Rattle.promises.proofs.Harness.{fresh-taken, image-more, lines-more}
 use Rattle.fates.specs.Told.{Told, linesBy}

@@ -12,7 +12,7 @@ use borrow.Author.Tests.{eq-eqb, ne-eqb, le-leb}
 use Rattle.ledger.specs.Tally.{occ, sumOf, allOf}
 use Rattle.ledger.proofs.Tallies.{both-of, to-both, at-all, chosen, one-most}
 use Rattle.octets.specs.Numbers.{be32At}
-use Rattle.octets.specs.Runs.{part, allZero}
+use Rattle.octets.specs.Runs.{Bytes, part, allZero}
 use Rattle.octets.specs.Blocks.{flat}
 use Rattle.octets.proofs.Laws.{flat-length}
 use Rattle.paper.specs.Base.{Slot, closed, Table, slot, ppaNumbers, noPpa, fresh}
@@ -23,16 +23,16 @@ use Rattle.paper.specs.declared.Ppa.{Ppa}
 use Rattle.paper.proofs.StateNumbers.{in-every}
 use Rattle.table_image.specs.Layout.{ppaBase, slotBase, listed, ppaFrom, waitingFrom, slotAt, ppaAt, tableOf, joined, ppaBytes, streamBytes, waitingBytes, slotBytes, headerBytes, imageOf, isState, tidySlot, slotParts, tidyPpas, tidy, soundImage}
 use Rattle.table_image.specs.Shape.{Shaped}
-use Rattle.table_image.proofs.Joined.{each-listed}
+use Rattle.table_image.proofs.Joined.{part-bytes, each-listed}
 use Rattle.table_image.proofs.Shapes.{ppas-length, image-length}
 use Rattle.table_image.proofs.TableBack.{slot-part, table-back}
 use Rattle.table_image.proofs.TidyImage.{tidy-parts, shaped-table}
 use Rattle.call_outcomes.specs.Leaving.{Left, leaving, callOf}
-use Rattle.keeping.specs.Soundness.{Bytes, Sound}
+use Rattle.keeping.specs.Soundness.{Sound}
 use Rattle.keeping.proofs.Lent.{shaped, image-bytes}
 use Rattle.keeping.proofs.NextNumber.{counter-small}
 use Rattle.keeping.proofs.Kept.{keeps, fresh-sound}
-use Rattle.keeping.proofs.Read.{part-bytes, no-bytes}
+use Rattle.keeping.proofs.Read.{no-bytes}
 use Rattle.keeping.proofs.Tested.{sound-test, sound-tested}
 
 -- ---- runs of zeros

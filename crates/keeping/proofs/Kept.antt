@@ -6,12 +6,13 @@ use mathlib.Core.Bool.{Bool, true, not}
 use mathlib.Core.List.{List, [], _∷_}
 use lib.ListN.{length, getD, replicate}
 use borrow.Author.Tests.{not-true}
+use Rattle.octets.specs.Runs.{Bytes}
 use Rattle.ledger.specs.Tally.{has, allOf, firstOf, free, nextFrom}
 use Rattle.ledger.proofs.Tallies.{both-of, to-both, picked, first-holds}
 use Rattle.fates_book.specs.declared.End.the-variants.{Denied, Withdrawn}
 use Rattle.fates_book.specs.declared.Line.the-variants.{Nothing}
 use Rattle.ledger.proofs.Sums.{of-asks}
-use Rattle.table_image.proofs.Joined.{part-length}
+use Rattle.table_image.proofs.Joined.{part-bytes, part-length}
 use Rattle.paper.specs.Base.{number, Slot, closed, Table, fresh, slot, stream, waiting, lowestFree, tokenOf, ppaNumbers, knows, withPpa}
 use Rattle.paper.specs.Saps.{listens}
 use Rattle.paper.specs.RecordsIn.{inputOf}
@@ -32,7 +33,7 @@ use Rattle.paper.specs.declared.Found.the-variants.{At}
 use Rattle.paper.proofs.RowFound.{row-from}
 use Rattle.paper.proofs.Fair.{Fair, informs, tellsToken, attaches, detaches, binds, unbinds, connects, acceptsHere, acceptsOn, denies, disconnects, resets, answersReset}
 use Rattle.paper.proofs.Walk.{done, failing, serving, Brings, arriving, accepted, gone, withdrawn, reset, confirmed, Way, refusing, adding, opening, closing, answering, bringing, step-walk}
-use Rattle.keeping.specs.Soundness.{Bytes, Sound}
+use Rattle.keeping.specs.Soundness.{Sound}
 use Rattle.keeping.specs.RowsFit.{toState, lastState, mayTake, mayLose, enders, fitsStaying, fitsMoving, fitsDisconnecting, fitsAttaching, fitsBinding, fitsTaking, fitsLosing, RowsFit}
 use Rattle.keeping.proofs.Changes.{bound-attached, opened, in-nine, ok-closed}
 use Rattle.keeping.proofs.Leaves.{open-sound, ppa-sound}
@@ -41,7 +42,7 @@ use Rattle.keeping.proofs.Rows.{state-rows-fit, rowOf, passes}
 use Rattle.keeping.proofs.Effects.{Good, onward-good, unchanged-good, attach-good, bind-good}
 use Rattle.keeping.proofs.Listeners.{takes-good, less-good, accept-on, accept-here}
 use Rattle.keeping.proofs.Closes.{open-nonzero, close-good}
-use Rattle.keeping.proofs.Read.{part-bytes, no-bytes, Whole, read-whole}
+use Rattle.keeping.proofs.Read.{no-bytes, Whole, read-whole}
 use Rattle.keeping.proofs.Lent.{shaped}
 use Rattle.keeping.proofs.Tested.{sound-test}
 use Rattle.keeping.proofs.NextNumber.{next-free}

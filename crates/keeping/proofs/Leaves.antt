@@ -8,6 +8,7 @@ use lib.ListN.{length, length-set, length-append}
 use lib.Dec.{eqb, ltb}
 use native.Mathlib.Omega.{arith}
 use borrow.Author.Tests.{eqb-true, ltb-true, ltb-false, lt-ltb}
+use Rattle.octets.specs.Runs.{Bytes}
 use Rattle.ledger.specs.Choice.{pick}
 use Rattle.ledger.specs.Tally.{oneIf, occ, has, free}
 use Rattle.ledger.proofs.Tallies.{both-of, picked}
@@ -21,7 +22,7 @@ use Rattle.paper.specs.declared.State.{State}
 use Rattle.paper.specs.declared.Stream.{Stream}
 use Rattle.paper.specs.declared.Ppa.{Ppa}
 use Rattle.paper.specs.declared.PpaNumber.{PpaNumber}
-use Rattle.keeping.specs.Soundness.{cap, Bytes, Ok, Sound}
+use Rattle.keeping.specs.Soundness.{cap, Ok, Sound}
 use Rattle.keeping.proofs.Changes.{Fits, ok-closed, ok-none, ok-settled}
 
 abbrev pub hearing : PpaNumber → ℕ → Stream → ℕ

@@ -1,15 +1,13 @@
 -- What a record of bytes holds is bytes; and one that adds a PPA was read whole, so that it has a MAC of 6 bytes and a number of 4.
-use Prim.Native.Nat.{ℕ, zero, suc, _+_, _≤_, _<_, _^_}
+use Prim.Native.Nat.{ℕ, zero, suc, _≤_, _<_, _^_}
 use native.Mathlib.Omega.{arith}
 use mathlib.Core.Path.{_≡_}
 use mathlib.Core.List.{List}
-use lib.ListN.{length, getD, drop, replicate}
-use lib.Seq.{getD-drop}
+use lib.ListN.{length, getD, replicate}
 use borrow.Author.Tests.{eqb-false}
 use Rattle.ledger.proofs.Tallies.{chosen}
 use Rattle.octets.specs.Numbers.{be32At}
-use Rattle.octets.specs.Runs.{part}
-use Rattle.table_image.proofs.Joined.{each-take}
+use Rattle.octets.specs.Runs.{Bytes}
 use Rattle.paper.specs.RecordsIn.{kindOf, sizeOf, inputAs, inputOf}
 use Rattle.paper.specs.declared.Kind.{Kind}
 use Rattle.paper.specs.declared.Kind.the-variants as kind
@@ -17,10 +15,6 @@ use Rattle.paper.specs.declared.PpaNumber.{PpaNumber}
 use Rattle.paper.specs.declared.Input.{Input}
 use Rattle.paper.specs.declared.Input.the-variants as input
 use Rattle.paper.proofs.Records.{whole}
-use Rattle.keeping.specs.Soundness.{Bytes}
-
-pub part-bytes : (r : List ℕ) (at n : ℕ) → Bytes r → Bytes (part r at n)
-part-bytes r at n b = each-take (λ (x : ℕ). x < 256) n (drop at r) 0 (λ k. rw getD-drop (b (at + k))) (omega arith)
 
 pub no-bytes : (n : ℕ) → Bytes (replicate n 0)
 no-bytes zero j = omega arith

@@ -7,9 +7,10 @@ use lib.ListN.{length, getD}
 use lib.Dec.{eqb, ltb, leb}
 use native.Mathlib.Omega.{arith}
 use borrow.Author.Tests.{eqb-true, eq-eqb, ltb-true, ltb-false, lt-ltb, leb-true, le-leb, not-true}
+use Rattle.octets.specs.Runs.{Bytes}
 use Rattle.ledger.specs.Choice.{pick, both, either}
 use Rattle.ledger.specs.Tally.{oneIf, occ, has, allOf}
-use Rattle.ledger.proofs.Tallies.{both-of, to-both, picked, all-at, at-all, empty}
+use Rattle.ledger.proofs.Tallies.{both-of, to-both, picked, all-at, at-all, empty, nth}
 use Rattle.ledger.proofs.Sums.{sum-at, sum-some, all-occ, occ-all, all-sum, of-asks, to-asks}
 use Rattle.paper.specs.Base.{isIn, isAmong, boundStates, connectionStates, Slot, closed, Table, slot, stream, waiting, ppaNumbers, noPpa}
 use Rattle.paper.specs.Saps.{asBindAllows, listens}
@@ -19,7 +20,7 @@ use Rattle.paper.specs.declared.State.{State}
 use Rattle.paper.specs.declared.State.the-variants.{Unattached}
 use Rattle.paper.specs.declared.Stream.{Stream}
 use Rattle.paper.specs.declared.PpaNumber.{PpaNumber}
-use Rattle.keeping.specs.Soundness.{cap, Bytes, Ok, Sound}
+use Rattle.keeping.specs.Soundness.{cap, Ok, Sound}
 use Rattle.keeping.proofs.Changes.{ok-closed}
 use Rattle.paper.proofs.StateNumbers.{in-zero}
 
@@ -64,9 +65,6 @@ sound-test t k =
     recalled false e = at-all (λ (x : Slot). not (x .isOpen)) closed (t .slots) (λ i. ap not (k .recalls e i))
 
 -- ---- to the facts
-nth : (l : List Bool) → every l ≡ true → (i : ℕ) → getD l i true ≡ true
-nth l h i = all-at (λ (b : Bool). b) true refl l h i
-
 zeros : (s : Stream) → every (unbound s) ≡ true → (s .mode ≡ 0) × (s .sap ≡ 0) × (s .granted ≡ 0)
 zeros s h = (eqb-true _ _ (nth (unbound s) h 0), eqb-true _ _ (nth (unbound s) h 1), eqb-true _ _ (nth (unbound s) h 2))
 

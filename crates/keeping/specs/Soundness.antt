@@ -5,6 +5,7 @@ use mathlib.Core.Bool.{true, false}
 use mathlib.Core.List.{List}
 use lib.ListN.{length, getD}
 use lib.Dec.{ltb}
+use Rattle.octets.specs.Runs.{Bytes}
 use Rattle.ledger.specs.Tally.{occ, has}
 use Rattle.paper.specs.Base.{isIn, isAmong, boundStates, connectionStates, Slot, closed, Table, slot, ppaNumbers, noPpa}
 use Rattle.paper.specs.Saps.{asBindAllows}
@@ -15,10 +16,6 @@ use Rattle.paper.specs.declared.PpaNumber.{PpaNumber}
 -- how often a correlation number may be open: 0 never, and one of four bytes once
 abbrev pub cap : ℕ → ℕ
 cap n = min n (min 1 (2 ^ 32 - n))
-
--- every byte is one
-abbrev pub Bytes : List ℕ → Type 0
-Bytes l = (j : ℕ) → getD l j 0 < 256
 
 -- one of the table's streams, where ps are the numbers of its PPAs
 pub record Ok (ps : List ℕ) (x : Slot) : Type 0 where

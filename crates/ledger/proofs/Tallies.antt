@@ -96,6 +96,10 @@ all-at p d z [] h i = z
 all-at p d z (x ∷ l) h zero = both-of _ _ h .0
 all-at p d z (x ∷ l) h (suc i) = all-at p d z l (both-of (p x) (allOf p l) h .1) i
 
+-- each of several tests that all hold
+pub nth : (l : List Bool) → allOf (λ (b : Bool). b) l ≡ true → (i : ℕ) → getD l i true ≡ true
+nth l h i = all-at (λ (b : Bool). b) true refl l h i
+
 pub at-all : {A : Type 0} (p : A → Bool) (d : A) (l : List A) → ((i : ℕ) → p (getD l i d) ≡ true) → allOf p l ≡ true
 at-all p d [] h = refl
 at-all p d (x ∷ l) h = to-both _ _ (h 0) (at-all p d l (λ i. h (suc i)))

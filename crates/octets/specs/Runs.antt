@@ -1,9 +1,13 @@
 -- Runs of bytes in lists: a part, a run written over a list, and the tests of runs.
-use Prim.Native.Nat.{ℕ, _+_}
+use Prim.Native.Nat.{ℕ, _+_, _<_}
 use mathlib.Core.List.{List, [], _∷_, _++_}
 use mathlib.Core.Bool.{Bool, true, false, _&&_}
-use lib.ListN.{length, take, drop}
+use lib.ListN.{length, getD, take, drop}
 use lib.Dec.{eqb}
+
+-- each number of a list is a byte
+abbrev pub Bytes : List ℕ → Type 0
+Bytes l = (k : ℕ) → getD l k 0 < 256
 
 -- n bytes of a list from a place on
 abbrev pub part : List ℕ → ℕ → ℕ → List ℕ

@@ -6,6 +6,7 @@ use mathlib.Core.Bool.{true, false≢true}
 use mathlib.Core.List.{List, [], _∷_, map}
 use lib.Dec.{ltb}
 use borrow.Author.Tests.{ltb-true}
+use Rattle.octets.specs.Runs.{Bytes}
 use Rattle.ledger.proofs.Tallies.{all-at}
 use Rattle.paper.specs.Base.{isAmong, boundStates, Slot, Table, fresh, slot, stream, waiting}
 use Rattle.paper.specs.StateRows.{stateRows}
@@ -14,7 +15,7 @@ use Rattle.fates_book.specs.declared.Line.{Line}
 use Rattle.fates_book.specs.Book.{Opening, openOf, newest, posts, leftOpen, tallies, countIn, grantBy}
 use Rattle.fates_book.proofs.Shades.{shades, fairs, rooteds, openingsIn, open-posts, left-posts, posts-append, tallies-append, grant-append, fairs-append, rooteds-append}
 use Rattle.fates_book.proofs.Counts.{count-posts}
-use Rattle.keeping.specs.Soundness.{Bytes, Sound}
+use Rattle.keeping.specs.Soundness.{Sound}
 use Rattle.promises.specs.History.{saidBy, lines, fates, grantedBy}
 use Rattle.promises.proofs.Runs.{Call, answeredBy, run, history}
 use Rattle.promises.proofs.Whole.{read-step}

@@ -5,28 +5,21 @@ use mathlib.Core.Path.{_≡_, refl, sym, ap, ap₂, _∙_}
 use mathlib.Core.Bool.{Bool, true, false, not}
 use mathlib.Core.List.{List, [], _∷_, _++_}
 use lib.ListN.{length, getD, take, drop, take-append-drop, length-drop}
-use lib.Seq.{drop-cons, length-take-le, take-all, getD-take, getD-drop}
+use lib.Seq.{drop-cons, length-take-le, take-all, getD-take}
 use lib.Dec.{eqb, eqb·suc-zero}
 use borrow.Author.Tests.{ltb-true, eqb-true}
 use Rattle.ledger.specs.Choice.{_⇒_∣_}
 use Rattle.ledger.specs.Tally.{oneIf, occ}
 use Rattle.octets.specs.Numbers.{be16At, be32At, be16, be32}
-use Rattle.octets.specs.Runs.{part}
+use Rattle.octets.specs.Runs.{Bytes, part}
 use Rattle.paper.specs.Base.{numberOf, Slot, stateOf, everyState}
 use Rattle.paper.specs.declared.State.{State}
 use Rattle.paper.specs.declared.State.the-variants.{Unbound, Idle, OutconPending, InconPending, DataXfer, UserResetPending, ProvResetPending}
 use Rattle.table_image.specs.Layout.{ppaBase, slotBase, listed, bit, ppaFrom, streamFrom, waitingFrom, maskIn, slotAt, ppaAt, tableOf, padTo, joined, maskOf, ppaBytes, streamBytes, waitingBytes, slotBytes, headerBytes, imageOf, isState, tidy}
 use Rattle.table_image.proofs.Bits.{mask-only}
-use Rattle.table_image.proofs.Joined.{listed-length, listed-back, each-take, part-length, part-add, joined-listed, pad-listed}
+use Rattle.table_image.proofs.Joined.{listed-length, listed-back, part-length, part-bytes, part-add, joined-listed, pad-listed}
 use Rattle.table_image.proofs.TableBack.{slot-at, be32At-part, flat-joined}
 use Rattle.table_image.proofs.TidyImage.{TidySlot, Tidy, tidy-parts}
-
--- each number of a list is a byte
-abbrev Bytes : List ℕ → Type 0
-Bytes c = (k : ℕ) → getD c k 0 < 256
-
-part-bytes : (c : List ℕ) (at n : ℕ) → Bytes c → Bytes (part c at n)
-part-bytes c at n h = each-take (λ (x : ℕ). x < 256) n (drop at c) 0 (λ k. rw getD-drop (h (at + k))) (omega arith)
 
 -- the first bytes of a list, one by one
 front : (c : List ℕ) (n : ℕ) → n ≤ length c → listed (λ k. getD c k 0) 0 n ≡ take n c

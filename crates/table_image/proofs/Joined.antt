@@ -8,7 +8,7 @@ use mathlib.Core.List.{List, [], _∷_, _++_, append-assoc, append-nil}
 use lib.ListN.{length, getD, take, drop, set, replicate, length-append, length-replicate, length-drop, replicate-append-replicate}
 use lib.Seq.{take-at, drop-at, take-length, take-add, drop-drop, length-take-le, getD-take, getD-drop, split-at, set-split, ext-getD}
 use Rattle.octets.specs.Numbers.{be16At, be32At}
-use Rattle.octets.specs.Runs.{part, paste, allZero}
+use Rattle.octets.specs.Runs.{Bytes, part, paste, allZero}
 use Rattle.octets.proofs.Laws.{paste-middle, zero-replicate}
 use Rattle.table_image.specs.Layout.{listed, joined, padTo}
 
@@ -149,6 +149,9 @@ pad-more h l s q n b e f =
 -- the length of a part
 pub part-length : (c : List ℕ) (at n : ℕ) → at + n ≤ length c → length (part c at n) ≡ n
 part-length c at n h = length-take-le n (drop at c) (omega (arith, length-drop at c))
+
+pub part-bytes : (c : List ℕ) (at n : ℕ) → Bytes c → Bytes (part c at n)
+part-bytes c at n h = each-take (λ (x : ℕ). x < 256) n (drop at c) 0 (λ k. rw getD-drop (h (at + k))) (omega arith)
 
 -- a part as two
 pub part-add : (c : List ℕ) (at n m : ℕ) → part c at (n + m) ≡ part c at n ++ part c (at + n) m

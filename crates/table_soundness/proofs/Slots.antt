@@ -10,7 +10,7 @@ use native.Mathlib.Omega.{arith}
 use borrow.Author.Tests.{eqb-true, eq-eqb, ne-eqb, lt-ltb, le-leb}
 use Rattle.ledger.specs.Choice.{both, pick}
 use Rattle.ledger.specs.Tally.{oneIf, occ, allOf}
-use Rattle.ledger.proofs.Tallies.{both-of, to-both, chosen, all-at, empty, both-true}
+use Rattle.ledger.proofs.Tallies.{both-of, to-both, chosen, all-at, empty, both-true, nth}
 use Rattle.octets.specs.Numbers.{be32At}
 use Rattle.octets.specs.Runs.{part, allZero}
 use Rattle.octets.proofs.Laws.{be32At-be32, zero-replicate}
@@ -91,9 +91,6 @@ none-open zero g = sym (le-leb 0 g (omega arith))
 none-open (suc n) g = rw (eqb·suc-zero n, lt-ltb 0 (suc n) (omega arith))
 
 -- ---- closed streams
-
-nth : (l : List Bool) → every l ≡ true → (i : ℕ) → getD l i true ≡ true
-nth l h i = all-at (λ (b : Bool). b) true refl l h i
 
 abbrev empty-slot : Bool → Slot
 empty-slot b = record { isOpen = b; stream = noStream; waiting = [] }
