@@ -1,4 +1,4 @@
-// An effect enacted: its records are written to the lent room, then the lent table is changed.
+// What was decided, concluded: an effect's records are written to the lent room, then the lent table is changed.
 ghost use mathlib.Core.Path.{_≡_};
 ghost use mathlib.Core.Bool.{true};
 ghost use mathlib.Core.List.{[], _∷_};
@@ -7,12 +7,12 @@ ghost use lib.ListN.{length};
 ghost use Rattle.octets.specs.Runs.{over};
 ghost use Rattle.paper.specs.Base.{Slot, slot, waiting, macAt};
 ghost use Rattle.paper.specs.RecordsOut.{order, up, bytesOf};
-ghost use Rattle.paper.specs.Refusals.{served};
-ghost use Rattle.paper.specs.Effects.{changed, carried, enacted, namedBy, behindOrder, ordersIn, behindReply, upsIn, told};
+ghost use Rattle.paper.specs.Effects.{changed, carried, namedBy, behindOrder, ordersIn, behindReply, upsIn, told};
 ghost use Rattle.table_image.specs.Layout.{tableOf, imageOf};
 ghost use Rattle.table_image.specs.Lent.{Lent};
 ghost use Rattle.call_outcomes.specs.Leaving.{left, leaving};
 ghost use Rattle.call_outcomes.specs.Deciding.{outcomeOf, Enactable};
+ghost use Rattle.call_outcomes.specs.declared.Decided.the-variants as decided;
 ghost use Rattle.call_outcomes.specs.Takes.{takes};
 ghost use Rattle.call_enacting.specs.Behind.{ownBehind, behindBy};
 ghost use Rattle.call_enacting.specs.Written.{Written};
@@ -198,8 +198,8 @@ fn put_records(img: &[u8], room: &mut [u8], i: u8, c: u8, m: &[u8], e: Effect) -
 
 // An effect on stream i, where stream c carries, of the message m, or of the event whose record m is.
 fn enact(img: &mut [u8], room: &mut [u8], i: u8, c: u8, m: &[u8], e: Effect) -> u32
-    requires { ⌜ (i < 16) × (length (now img) ≡ 760) × Lent (now img) × (128 ≤ length (now room)) × (takes (e .change) ≡ true → length (waiting (tableOf (now img)) i) < 8) ⌝ }
-    ensures { λ r. ⌜ left r (now (img .exit)) (now (room .exit)) ≡ leaving (now (img .entry)) (now (room .entry)) (served (enacted (tableOf (now (img .entry))) i c (now (m .entry)) e) (told i c (slot (tableOf (now (img .entry))) i) (macAt (tableOf (now (img .entry))) i) (now (m .entry)) e)) ⌝ }
+    requires { ⌜ (length (now img) ≡ 760) × Lent (now img) × (128 ≤ length (now room)) × Enactable (tableOf (now img)) (decided.Does i c e) ⌝ }
+    ensures { λ r. ⌜ left r (now (img .exit)) (now (room .exit)) ≡ leaving (now (img .entry)) (now (room .entry)) (outcomeOf (tableOf (now (img .entry))) (now (m .entry)) (decided.Does i c e)) ⌝ }
 {
     let change = e.change;
     let carries = e.carries;

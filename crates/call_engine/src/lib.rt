@@ -1,4 +1,4 @@
-// The call: it reads one record, decides by value, writes its records into the lent room and changes the lent table.
+// The call: it reads one record, decides by value what that comes to, and concludes it.
 ghost use mathlib.Core.Path.{_≡_};
 ghost use mathlib.Core.Bool.{true, false};
 ghost use Prim.Native.Nat.{_≤_};

@@ -27,7 +27,7 @@ pub record RightlyBrought (t : Table) (r : List ℕ) (b : Brought) (o : Outcome)
   pub comes : broughtBy t r b ≡ o
   pub fits : Bringable b
 
--- The records of the line, and what is none that can be read.
+-- The records of the line, and what could not be read.
 abbrev pub isOfLine : Input → Bool
 isOfLine input.Unreadable = true
 isOfLine input.Padded = true

@@ -124,7 +124,7 @@ fn call_arrives(img: &[u8], p: PpaNumber, sap: u8, r: &[u8]) -> Brought
     Brought::To(i as u8, BUSY, Event::Arrives(Correlation(n)))
 }
 
-// By the record's kind. (What is no record of the line is refused.)
+// By the record's kind. (What could not be read is refusal 10.)
 fn bring(img: &[u8], r: &[u8], q: Input) -> Brought
     requires { ⌜ (length (now img) ≡ 760) × Lent (now img) × (isOfLine q ≡ true) ⌝ }
     ensures { λ b. ⌜ RightlyBrought (tableOf (now (img .entry))) (now (r .entry)) b (serveBy stateRows (tableOf (now (img .entry))) (now (r .entry)) q) ⌝ }

@@ -20,9 +20,9 @@ singleOn [] = true
 singleOn (n ∷ l) = both (isSingleIn (n ∷ l) n) (singleOn l)
 
 -- another number counts for none
-other : (n x : ℕ) (m : List ℕ) → eqb n x ≡ false → isSingleIn (n ∷ m) x ≡ isSingleIn m x
+unlike : (n x : ℕ) (m : List ℕ) → eqb n x ≡ false → isSingleIn (n ∷ m) x ≡ isSingleIn m x
 unfolding isSingleIn
-other n x m e =
+unlike n x m e =
     let same : oneIf (eqb x n) + occ x m ≡ occ x m = omega (arith, ap oneIf (ne-eqb x n (λ z. eqb-false n x e (sym z)))) in
     ap (λ (k : ℕ). both (ltb 0 x) (leb k 1)) same
 
@@ -34,7 +34,7 @@ aside n m (x ∷ l) h = go (eqb n x) refl h (aside n m l)
     go : (b : Bool) → eqb n x ≡ b → oneIf b + occ n l ≡ 0 → (occ n l ≡ 0 → allOf (isSingleIn (n ∷ m)) l ≡ allOf (isSingleIn m) l)
         → allOf (isSingleIn (n ∷ m)) (x ∷ l) ≡ allOf (isSingleIn m) (x ∷ l)
     go true e h rest = absurd (omega arith)
-    go false e h rest = ap₂ both (other n x m e) (rest (omega arith))
+    go false e h rest = ap₂ both (unlike n x m e) (rest (omega arith))
 
 comes-once : (n : ℕ) (l : List ℕ) → isSingleIn (n ∷ l) n ≡ true → occ n l ≡ 0
 unfolding isSingleIn
@@ -52,22 +52,22 @@ single-on (n ∷ l) = ap (both (isSingleIn (n ∷ l) n)) (single-on l) ∙ go (i
 
 -- ---- the walk: the numbers before place k have passed
 
-abbrev pub Passed : List ℕ → ℕ → Type 0
-Passed l k = areSingle l ≡ singleOn (drop k l)
+abbrev pub PassedTo : List ℕ → ℕ → Type 0
+PassedTo l k = areSingle l ≡ singleOn (drop k l)
 
 module _ (l : List ℕ) (k : ℕ) (h : k < length l) where
   -- whether the number at place k is single among those from it on
   abbrev here : Bool
   here = isSingleIn (part l k (length l - k)) (getD l k 0)
 
-  step : singleOn (drop k l) ≡ both here (singleOn (drop (suc k) l))
-  step = rw (take-all (length l - k) (drop k l) (omega (arith, length-drop k l)), drop-cons l k 0 h)
+  turn : singleOn (drop k l) ≡ both here (singleOn (drop (suc k) l))
+  turn = rw (take-all (length l - k) (drop k l) (omega (arith, length-drop k l)), drop-cons l k 0 h)
 
-  pub not-single : Passed l k → here ≡ false → false ≡ areSingle l
-  not-single p e = sym (p ∙ step ∙ rw e)
+  pub not-single : PassedTo l k → here ≡ false → false ≡ areSingle l
+  not-single p e = sym (p ∙ turn ∙ rw e)
 
-  pub one-more : Passed l k → here ≡ true → Passed l (k + 1)
-  one-more p e = p ∙ step ∙ rw (e, add-one)
+  pub one-more : PassedTo l k → here ≡ true → PassedTo l (k + 1)
+  one-more p e = p ∙ turn ∙ rw (e, add-one)
 
-pub all-single : (l : List ℕ) (k : ℕ) → length l ≤ k → Passed l k → true ≡ areSingle l
+pub all-single : (l : List ℕ) (k : ℕ) → length l ≤ k → PassedTo l k → true ≡ areSingle l
 all-single l k h p = sym (p ∙ ap singleOn (drop-of-length-le l h))

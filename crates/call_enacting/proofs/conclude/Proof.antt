@@ -12,8 +12,7 @@ enact-requires : tie.Need-enact-requires
 enact-requires c κs =
     let told = c .before .before .before in
     let a = told .before .before .before .before .before in
-    let fits = subst (Enactable (tableOf (now (a .args .img)))) (told .d2 .given .1) (a .pre .3) in
-    (fits .0, a .pre .0, a .pre .1, a .pre .2, fits .1)
+    (a .pre .0, a .pre .1, a .pre .2, subst (Enactable (tableOf (now (a .args .img)))) (told .d2 .given .1) (a .pre .3))
 
 returns : tie.Need-returns
 returns c =

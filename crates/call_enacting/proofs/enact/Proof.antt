@@ -14,7 +14,7 @@ carry-requires c κs =
     let a = c .before .before .before .before .before .before .before .before .before .before .before .before .before in
     let t = tableOf (now (a .args .img)) in
     let d = a .args .e .change in
-    let shaped = shaped-changed t (a .pre .2 .shaped) (a .args .i) d (a .pre .4) in
+    let shaped = shaped-changed t (a .pre .1 .shaped) (a .args .i) d (a .pre .3 .1) in
     (search needs, lent-after (changed t (a .args .i) d) shaped _ (c .before .before .before .change-stream .ensures))
 
 returns : tie.Need-returns
@@ -28,7 +28,7 @@ returns c =
     let m = now (a .args .m) in
     let e = a .args .e in
     let r = c .before .before .before .before .before .before .before .before .before .before .put-records .ensures in
-    let shaped = shaped-changed t (a .pre .2 .shaped) i (e .change) (a .pre .4) in
+    let shaped = shaped-changed t (a .pre .1 .shaped) i (e .change) (a .pre .3 .1) in
     leaves-served img (now (a .args .room)) (enacted t i k m e) (told i k (slot t i) (macAt t i) m e) _ _ _ (r .1 .0)
     (c .before .before .carry .ensures
     ∙ change-after (changed t i (e .change)) shaped (λ (u : Table). carried u k (e .carries)) _ (c .before .before .before .before .before .before .change-stream .ensures))

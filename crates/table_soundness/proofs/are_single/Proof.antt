@@ -5,12 +5,12 @@ use lib.ListN.{length}
 use borrow.Author.Needs.{needs}
 use denote.Ref.{now}
 use Rattle.table_soundness.proofs.Laws.{told, told-not}
-use Rattle.table_soundness.proofs.Singles.{single-on, Passed, not-single, one-more, all-single}
+use Rattle.table_soundness.proofs.Singles.{single-on, PassedTo, not-single, one-more, all-single}
 use Rattle.table_soundness.proofs.are_single.Statement.{statement}
 use Rattle.table_soundness.proofs.are_single.Tie as tie
 
 abbrev Inv-loop : tie.InvT-loop
-Inv-loop numbers k₀ k = Passed numbers k
+Inv-loop numbers k₀ k = PassedTo numbers k
 
 abbrev μ-loop : tie.MeasureT-loop
 μ-loop numbers k₀ k = length numbers - k
