@@ -83,7 +83,7 @@ abbrev pub foreignReplies : List ℕ
 foreignReplies = 2 ∷ 3 ∷ 4 ∷ 5 ∷ 6 ∷ 7 ∷ 8 ∷ 9 ∷ []
 
 pub not-own : (mac : List ℕ) (r : Reply) → OneOf foreignReplies (tagOf the-reply.the-type r) → ownBehind mac r ≡ []
-unfolding ownBehind
+unfolding behindReply
 not-own mac (reply.InfoAck s) h = absurd (miss foreignReplies 0 tt h)
 not-own mac (reply.BindAck sap granted) h = absurd (miss foreignReplies 1 tt h)
 not-own mac (reply.ErrorAck code error) h = refl
@@ -115,7 +115,7 @@ not-event own m reply.ResetCon h = refl
 -- by where it comes from, it is what stands behind the fields. CONNECT_IND has the two addresses of the event, one behind
 -- the other.
 pub behind-reply : (mac m : List ℕ) (r : Reply) → behindBy (ownBehind mac r) m r ≡ behindReply mac m r
-unfolding ownBehind behindBy behindReply
+unfolding behindBy behindReply
 behind-reply mac m (reply.InfoAck s) = refl
 behind-reply mac m (reply.BindAck sap granted) = refl
 behind-reply mac m (reply.ErrorAck code error) = refl

@@ -2,22 +2,13 @@
 use Prim.Native.Nat.{ℕ}
 use mathlib.Core.List.{List, []}
 use Rattle.octets.specs.Runs.{part}
-use Rattle.paper.specs.Replies.{addressOf, infoTail}
+use Rattle.paper.specs.Effects.{behindReply}
 use Rattle.paper.specs.declared.Reply.{Reply}
 use Rattle.paper.specs.declared.Reply.the-variants as reply
 
--- the stream's own address, where the message ends in it
-unfoldable pub ownBehind : List ℕ → Reply → List ℕ
-ownBehind mac (reply.InfoAck s) = infoTail mac s
-ownBehind mac (reply.BindAck sap granted) = addressOf mac sap
-ownBehind mac (reply.ErrorAck code error) = []
-ownBehind mac (reply.OkAck code) = []
-ownBehind mac (reply.ConnectInd n) = []
-ownBehind mac reply.ConnectCon = []
-ownBehind mac (reply.TokenAck k) = []
-ownBehind mac (reply.DisconnectInd reason n) = []
-ownBehind mac (reply.ResetInd reason) = []
-ownBehind mac reply.ResetCon = []
+-- the stream's own address, where the message ends in it: what stands there with no event's record
+abbrev pub ownBehind : List ℕ → Reply → List ℕ
+ownBehind mac r = behindReply mac [] r
 
 -- the addresses of the event's record m, where the message ends in them, and the stream's own where not
 unfoldable pub behindBy : List ℕ → List ℕ → Reply → List ℕ

@@ -159,8 +159,7 @@ fn behind<'a>(own: &'a [u8], m: &'a [u8], reply: Reply) -> &'a [u8]
     }
 }
 
-// A message up. INFO_ACK and BIND_ACK end in the stream's address, CONNECT_IND and CONNECT_CON in what the event's record
-// brings.
+// A message up.
 fn put_reply(img: &[u8], room: &mut [u8], i: u8, m: &[u8], reply: Reply) -> usize
     requires { ⌜ (i < 16) × (length (now img) ≡ 760) × Lent (now img) × (99 ≤ length (now room)) ⌝ }
     ensures { λ n. ⌜ (n ≡ 99) × (now (room .exit) ≡ over (bytesOf (up i reply (behindReply (macAt (tableOf (now (img .entry))) i) (now (m .entry)) reply))) (now (room .entry))) ⌝ }

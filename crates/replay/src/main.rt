@@ -1,4 +1,4 @@
-// Reads records on standard input and prints what the rule paper says of each call: see crates/transcript.
+// Reads records on standard input and prints what the rule paper says of each call: see crates/replay_transcript.
 ghost use mathlib.Core.Path.{_≡_};
 ghost use mathlib.Core.Bool.{true};
 ghost use Prim.Native.Nat.{_+_, _<_, _≤_};

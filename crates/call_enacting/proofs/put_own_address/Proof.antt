@@ -4,21 +4,21 @@ use mathlib.Core.Path.{refl}
 use denote.Ref.{now}
 use Rattle.paper.specs.Base.{macAt}
 use Rattle.table_image.specs.Layout.{tableOf}
-use Rattle.call_enacting.specs.Behind.{ownBehind}
+use Rattle.paper.specs.Effects.{behindReply}
 use Rattle.call_enacting.proofs.Laws.{not-own}
 use borrow.Author.Needs.{needs}
 use Rattle.call_enacting.proofs.put_own_address.Statement.{statement}
 use Rattle.call_enacting.proofs.put_own_address.Tie as tie
 
 returns : tie.Need-returns
-unfolding ownBehind
+unfolding behindReply
 returns c =
     let told = c .before .before .before .before .before .before .reply .given in
     let found = c .before .before .before .before .mac-at in
     rw (told .1, ← found .ensures) (c .before .before .put-info-tail .ensures)
 
 returns-2 : tie.Need-returns-2
-unfolding ownBehind
+unfolding behindReply
 returns-2 c =
     let told = c .before .before .before .before .before .before .reply2 .given in
     let found = c .before .before .before .before .mac-at2 in
