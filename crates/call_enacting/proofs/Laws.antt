@@ -2,16 +2,17 @@
 -- past the table's end it finds nothing. What stands behind the fields of a message up comes from the stream or from the event.
 use Prim.Native.Nat.{ℕ, _≤_, _<_}
 use native.Mathlib.Omega.{arith}
-use mathlib.Core.Path.{_≡_, refl, sym, ap, _∙_}
+use mathlib.Core.Path.{_≡_, refl, ap}
 use mathlib.Core.Bool.{true}
 use mathlib.Core.List.{List, [], _∷_, _++_}
-use lib.ListN.{length, take, drop, length-append}
-use lib.Seq.{set-out, take-at}
+use lib.ListN.{length, length-append}
+use lib.Seq.{set-out}
 use types.Run.{OneOf, miss}
 use denote.Enum.Declared.{tagOf}
 use Rattle.ledger.specs.Tally.{without}
 use Rattle.ledger.proofs.Tallies.{length-without-le}
 use Rattle.octets.specs.Runs.{over}
+use Rattle.octets.proofs.Runs.{part-add}
 use Rattle.paper.proofs.LineOrder as the-order
 use Rattle.paper.proofs.Reply as the-reply
 use Rattle.paper.specs.Base.{settled, Slot, Table, waiting, withSlot, withNumbers, withStream, withCounter}
@@ -26,10 +27,9 @@ use Rattle.paper.specs.declared.LineOrder.{LineOrder}
 use Rattle.paper.specs.declared.LineOrder.the-variants as lineOrder
 use Rattle.paper.specs.declared.Reply.{Reply}
 use Rattle.paper.specs.declared.Reply.the-variants as reply
+use Rattle.paper.proofs.RecordsOut.{same-long, same-over}
 use Rattle.table_image.specs.Shape.{Shaped}
-use Rattle.table_image.proofs.Shapes.{shaped-calls, shaped-stream, shaped-counter}
-use Rattle.table_image.proofs.Joined.{part-add}
-use Rattle.call_outcomes.proofs.Laws.{same-long, same-over}
+use Rattle.table_image.proofs.Shapes.{shaped-numbers, shaped-stream, shaped-counter}
 use Rattle.call_outcomes.specs.Takes.{takes}
 use Rattle.call_enacting.specs.Behind.{ownBehind, behindBy}
 use Rattle.call_enacting.specs.Written.{Written}
@@ -52,11 +52,11 @@ module _ (t : Table) (k : Shaped t) where
   shaped-changed i Stays h = k
   shaped-changed i (Becomes s) h = shaped-stream t k i s
   shaped-changed i (Takes s n) h =
-      shaped-calls (withCounter t (onePast (n .0))) (shaped-counter t k (onePast (n .0))) i s (waiting t i ++ (n .0 ∷ []))
+      shaped-numbers (withCounter t (onePast (n .0))) (shaped-counter t k (onePast (n .0))) i s (waiting t i ++ (n .0 ∷ []))
       (simp length-append (omega (arith, h refl)))
   shaped-changed i (Loses s n last) h =
       let w : List ℕ = without (n .0) (waiting t i) in
-      shaped-calls t k i (standing last s w) w (omega (arith, length-without-le (n .0) (waiting t i), k .eight i))
+      shaped-numbers t k i (standing last s w) w (omega (arith, length-without-le (n .0) (waiting t i), k .eight i))
 
   -- past the table's end there is no stream that carries
   pub none-past : (c : ℕ) (s : Stream) → 16 ≤ c → withStream t c s ≡ t
@@ -126,10 +126,6 @@ behind-reply mac m (reply.TokenAck k) = refl
 behind-reply mac m (reply.DisconnectInd reason n) = refl
 behind-reply mac m (reply.ResetInd reason) = refl
 behind-reply mac m reply.ResetCon = refl
-
--- the bytes over a room's start are where it begins
-pub over-begins : {x : List ℕ} (p l : List ℕ) (n : ℕ) → x ≡ over p l → n ≡ length p → take n x ≡ p
-over-begins p l n ex en = ap (take n) ex ∙ take-at p (drop (length p) l) n (sym en)
 
 -- ---- a record written is the one that was to be written, where the two are the same
 

@@ -5,66 +5,37 @@ use mathlib.Core.Path.{_≡_, refl, sym, ap, subst, _∙_}
 use mathlib.Core.Bool.{Bool, true, false, not, false≢true}
 use mathlib.Core.List.{List, [], _∷_}
 use lib.ListN.{length}
-use lib.Dec.{eqb, ltb, leb}
+use lib.Dec.{ltb}
 use types.Run.{OneOf, miss}
 use denote.Enum.Declared.{tagOf}
-use borrow.Author.Tests.{eqb-true, leb-true, ltb-false}
-use Rattle.ledger.specs.Choice.{pick, both, either, _⇒_∣_}
-use Rattle.ledger.proofs.Tallies.{both-of, skip, all-at, of-either, nth}
-use Rattle.paper.specs.Base.{isAmong, boundStates, Slot, closed, Table, slot, stream, ppaNumbers}
+use borrow.Author.Tests.{ltb-false}
+use Rattle.ledger.specs.Choice.{both, _⇒_∣_}
+use Rattle.ledger.proofs.Tallies.{both-of, skip}
+use Rattle.paper.specs.Base.{Table, stream}
 use Rattle.paper.specs.RecordsIn.{inputOf, messageIn}
 use Rattle.paper.specs.Refusals.{littleRoom, notARecord, notSound, refused}
-use Rattle.paper.specs.Saps.{isSap, isType, asBindAllows}
-use Rattle.paper.specs.Sound.{every, unbound, holdsNothing, openTests, soundSlot, soundTests, sound}
+use Rattle.paper.specs.Sound.{sound}
 use Rattle.paper.specs.StateRows.{stateRows}
 use Rattle.paper.specs.Step.{ofOpen, message, serveBy, isReadable, stepBy}
 use Rattle.paper.specs.declared.Input.{Input}
 use Rattle.paper.specs.declared.Input.the-variants as input
-use Rattle.paper.specs.declared.Stream.{Stream}
 use Rattle.paper.proofs.Input as the-input
 use Rattle.paper.proofs.Records.{leastSize, read-long}
+use Rattle.paper.proofs.SoundTests.{few-granted}
 use Rattle.table_image.specs.Layout.{tableOf, tidy, soundImage}
 use Rattle.call_outcomes.specs.Leaving.{left, refusing, leaving, callOf}
-use Rattle.table_image.proofs.Joined.{part-length}
-use Rattle.table_soundness.proofs.Slots.{shut}
 use Rattle.call_events.specs.Bringing.{isOfLine}
 use Rattle.call_engine.specs.Reading.{isOpening, ReadOf}
+use Rattle.octets.proofs.Runs.{part-length}
 
 -- an image that is lent soundly is tidy, and its table sound
 pub parts : (img : List ℕ) → soundImage img ≡ true → (tidy img ≡ true) × (sound (tableOf img) ≡ true)
 unfolding soundImage
 parts img h = both-of (tidy img) (sound (tableOf img)) h
 
--- ---- at most 8 are granted
-
-bind-few : (s : Stream) → asBindAllows s ≡ true → s .granted ≤ 8
-unfolding asBindAllows
-bind-few s h =
-    of-either (both (eqb (s .mode) 1) (both (isSap (s .sap)) (leb (s .granted) 8)))
-    (both (eqb (s .mode) 2) (both (either (isSap (s .sap)) (isType (s .sap))) (eqb (s .granted) 0))) h
-    (λ e. leb-true _ _ (both-of (isSap (s .sap)) _ (both-of (eqb (s .mode) 1) _ e .1) .1))
-    (λ e. omega (arith, eqb-true (s .granted) 0 (both-of (either (isSap (s .sap)) (isType (s .sap))) _ (both-of (eqb (s .mode) 2) _ e .1) .1)))
-
-unbound-few : (s : Stream) → every (unbound s) ≡ true → s .granted ≤ 8
-unbound-few s h = omega (arith, eqb-true (s .granted) 0 (nth (unbound s) h 2))
-
-open-few : (ppas : List ℕ) (x : Slot) → every (openTests ppas x) ≡ true → x .stream .granted ≤ 8
-open-few ppas x h = go (isAmong boundStates (x .stream)) (nth (openTests ppas x) h 1)
-  where
-    go : (b : Bool) → pick b (asBindAllows (x .stream)) (every (unbound (x .stream))) ≡ true → x .stream .granted ≤ 8
-    go true e = bind-few (x .stream) e
-    go false e = unbound-few (x .stream) e
-
-table-few : (t : Table) → sound t ≡ true → (i : ℕ) → stream t i .granted ≤ 8
-unfolding sound soundSlot holdsNothing
-table-few t h i = go (slot t i .isOpen) refl (all-at (soundSlot (ppaNumbers t)) closed refl (t .slots) (nth (soundTests t) h 2) i)
-  where
-    go : (b : Bool) → slot t i .isOpen ≡ b → pick b (every (openTests (ppaNumbers t) (slot t i))) (holdsNothing (slot t i)) ≡ true → stream t i .granted ≤ 8
-    go true e p = open-few (ppaNumbers t) (slot t i) p
-    go false e p = omega (arith, ap (λ (x : Slot). x .stream .granted) (shut t h i e))
-
+-- at most 8 are granted
 pub granted-few : (img : List ℕ) → soundImage img ≡ true → (i : ℕ) → stream (tableOf img) i .granted ≤ 8
-granted-few img h = table-few (tableOf img) (parts img h .1)
+granted-few img h = few-granted (tableOf img) (parts img h .1)
 
 -- ---- what a record asks for, by the tags of what was read
 

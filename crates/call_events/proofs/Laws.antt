@@ -73,19 +73,19 @@ due t i e x h = go (isDue (slot t i) e) h
     go true h = refl
     go false h = absurd (false≢true (ap isThere h))
 
-placed : (t : Table) (i : ℕ) (x : StateRow) (s : Stream) (e : Event) → isDue (slot t i) e ≡ true → stream t i .granted ≤ 8
+has-place : (t : Table) (i : ℕ) (x : StateRow) (s : Stream) (e : Event) → isDue (slot t i) e ≡ true → stream t i .granted ≤ 8
     → takes (eventEffect x s e .change) ≡ true → length (waiting t i) < 8
 unfolding eventEffect
-placed t i x s (event.Arrives n) d g h = omega (arith, ltb-true (length (waiting t i)) (stream t i .granted) d)
-placed t i x s event.Accepted d g h = absurd (false≢true h)
-placed t i x s (event.Gone reason) d g h = absurd (false≢true h)
-placed t i x s (event.Withdrawn n reason) d g h = absurd (false≢true h)
-placed t i x s (event.Resets reason) d g h = absurd (false≢true h)
-placed t i x s event.Confirmed d g h = absurd (false≢true h)
+has-place t i x s (event.Arrives n) d g h = omega (arith, ltb-true (length (waiting t i)) (stream t i .granted) d)
+has-place t i x s event.Accepted d g h = absurd (false≢true h)
+has-place t i x s (event.Gone reason) d g h = absurd (false≢true h)
+has-place t i x s (event.Withdrawn n reason) d g h = absurd (false≢true h)
+has-place t i x s (event.Resets reason) d g h = absurd (false≢true h)
+has-place t i x s event.Confirmed d g h = absurd (false≢true h)
 
 pub place : (t : Table) (i : ℕ) (e : Event) (f : Found) (x : StateRow) (s : Stream) (w : Effect) → f ≡ dueRow t i e → f ≡ At x → w ≡ eventEffect x s e
     → stream t i .granted ≤ 8 → takes (w .change) ≡ true → length (waiting t i) < 8
-place t i e f x s w d h z g k = placed t i x s e (due t i e x (sym d ∙ h)) g (ap (λ (w : Effect). takes (w .change)) (sym z) ∙ k)
+place t i e f x s w d h z g k = has-place t i x s e (due t i e x (sym d ∙ h)) g (ap (λ (w : Effect). takes (w .change)) (sym z) ∙ k)
 
 -- ---- of the records that bring no event, those that are not the line's are ruled out, and the others cannot be read
 
@@ -93,16 +93,16 @@ place t i e f x s w d h z g k = placed t i x s e (due t i e x (sym d ∙ h)) g (
 abbrev eventless : List ℕ
 eventless = 0 ∷ 1 ∷ 2 ∷ 3 ∷ 4 ∷ 5 ∷ []
 
-pub unread : (t : Table) (r : List ℕ) (q : Input) → OneOf eventless (tagOf the-input.the-type q) → isOfLine q ≡ true → refused t notARecord ≡ serveBy stateRows t r q
-unread t r input.Unreadable k h = refl
-unread t r input.Padded k h = refl
-unread t r (input.AddPpa p) k h = absurd (false≢true h)
-unread t r input.Open k h = absurd (false≢true h)
-unread t r (input.Close i) k h = absurd (false≢true h)
-unread t r (input.Message i l) k h = absurd (false≢true h)
-unread t r (input.CallArrives p sap) k h = absurd (miss eventless 6 tt k)
-unread t r (input.PeerAccepted i) k h = absurd (miss eventless 7 tt k)
-unread t r (input.PeerGone i reason) k h = absurd (miss eventless 8 tt k)
-unread t r (input.CallWithdrawn i n reason) k h = absurd (miss eventless 9 tt k)
-unread t r (input.PeerReset i reason) k h = absurd (miss eventless 10 tt k)
-unread t r (input.ResetConfirmed i) k h = absurd (miss eventless 11 tt k)
+pub not-read : (t : Table) (r : List ℕ) (q : Input) → OneOf eventless (tagOf the-input.the-type q) → isOfLine q ≡ true → refused t notARecord ≡ serveBy stateRows t r q
+not-read t r input.Unreadable k h = refl
+not-read t r input.Padded k h = refl
+not-read t r (input.AddPpa p) k h = absurd (false≢true h)
+not-read t r input.Open k h = absurd (false≢true h)
+not-read t r (input.Close i) k h = absurd (false≢true h)
+not-read t r (input.Message i l) k h = absurd (false≢true h)
+not-read t r (input.CallArrives p sap) k h = absurd (miss eventless 6 tt k)
+not-read t r (input.PeerAccepted i) k h = absurd (miss eventless 7 tt k)
+not-read t r (input.PeerGone i reason) k h = absurd (miss eventless 8 tt k)
+not-read t r (input.CallWithdrawn i n reason) k h = absurd (miss eventless 9 tt k)
+not-read t r (input.PeerReset i reason) k h = absurd (miss eventless 10 tt k)
+not-read t r (input.ResetConfirmed i) k h = absurd (miss eventless 11 tt k)

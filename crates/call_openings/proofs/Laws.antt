@@ -9,30 +9,21 @@ use lib.ListN.{length, getD, take}
 use lib.Seq.{take-suc}
 use lib.Dec.{ltb}
 use borrow.Author.Tests.{ltb-true, ltb-false, not-true}
-use Rattle.ledger.specs.Choice.{pick, _⇒_∣_}
+use Rattle.ledger.specs.Choice.{_⇒_∣_}
 use Rattle.ledger.specs.Tally.{oneIf, sumOf, firstOf}
-use Rattle.ledger.proofs.Tallies.{first-holds, first-none}
+use Rattle.ledger.proofs.Tallies.{first-holds, first-none, none-first}
 use Rattle.paper.specs.Base.{Slot, Table, slot, closed, lowestFree}
 use Rattle.paper.specs.RecordsOut.{Record, order, bytesOf, allBytes}
 use Rattle.paper.specs.Refusals.{servedOpening}
 use Rattle.paper.specs.Openings.{goodbye}
 use Rattle.paper.specs.declared.Correlation.{Correlation}
 use Rattle.paper.specs.declared.LineOrder.the-variants as lineOrder
+use Rattle.paper.proofs.RecordsOut.{one-record, bytes-append}
 use Rattle.table_image.specs.Layout.{imageOf}
 use Rattle.table_image.specs.Shape.{Shaped}
 use Rattle.call_outcomes.specs.Leaving.{left, leaving}
-use Rattle.call_outcomes.proofs.Laws.{one-record, all-append}
 
 -- ---- the lowest free stream
-
--- where none is counted, the search finds none
-none-first : {A : Type 0} (p : A → Bool) (l : List A) → sumOf (λ x. oneIf (p x)) l ≡ 0 → length l ≤ firstOf p l
-none-first p [] e = omega arith
-none-first p (x ∷ l) e = go (p x) e (none-first p l)
-  where
-    go : (b : Bool) → oneIf b + sumOf (λ x. oneIf (p x)) l ≡ 0 → (sumOf (λ x. oneIf (p x)) l ≡ 0 → length l ≤ firstOf p l) → suc (length l) ≤ pick b 0 (suc (firstOf p l))
-    go true e r = absurd (omega arith)
-    go false e r = omega (arith, r (omega arith))
 
 abbrev isFree : Slot → Bool
 isFree x = not (x .isOpen)
@@ -81,6 +72,6 @@ goodbyes-next i k w c h e =
     let old : List Record = map (goodbye i) (take k w) in
     ap (λ (q : Correlation). allBytes old ++ bytesOf (order i (lineOrder.Disconnect q 0) [])) e
     ∙ ap (λ (b : List ℕ). allBytes old ++ b) (sym (one-record (goodbye i (getD w k 0))))
-    ∙ sym (all-append old (goodbye i (getD w k 0) ∷ []))
+    ∙ sym (bytes-append old (goodbye i (getD w k 0) ∷ []))
     ∙ ap allBytes (sym (map-append (goodbye i) (take k w) (getD w k 0 ∷ [])))
     ∙ ap (λ (l : List ℕ). allBytes (map (goodbye i) l)) (sym (take-suc w k 0 h) ∙ ap (λ (m : ℕ). take m w) z)

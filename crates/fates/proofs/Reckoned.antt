@@ -12,41 +12,41 @@ use Rattle.fates_book.specs.Book.{Opening, openOf, openCount, leftOpen, newest,
 use Rattle.fates_book.proofs.Shades.{fairs, rooteds}
 use Rattle.fates_register.specs.Register.{blank, placeOf, openOn, enteredAll}
 use Rattle.fates_register.proofs.Kept.{fine-front, kept-openings, kept-counts, kept-open, kept-all-openings, kept-all-counts, found-place, found-number}
-use Rattle.fates_register.proofs.Places.{asked}
+use Rattle.fates_register.proofs.Places.{isMarked}
 use Rattle.fates_register.proofs.Whole.{over-same}
 use Rattle.fates_report.specs.Report.{spacedNumber, numbers, wordOf, wordCall, wordOpening, wordTotal, indicationLine, openingLine, openOnAll, totalLine}
 use Rattle.promises.specs.History.{Answered, lines, fates, indicated, accepted, denied, withdrawn, dropped}
 use Rattle.promises.specs.Harness.{Harness, heardIn}
 use Rattle.promises.proofs.Harness.{agreed, fair-heard}
 use Rattle.fates.specs.Told.{Told}
-use Rattle.fates.specs.Shown.{openingShown, callShown, totalOf, totalShown}
+use Rattle.fates.specs.Shown.{openingShown, indicationShown, totalOf, totalShown}
 
 -- ---- numbers of the register, one behind the other
 
 -- behind p, the cell c holds v, and the others go on from d
-next : (p : List ℕ) (k c d v : ℕ) (l : List ℕ) → getD l c 0 ≡ v → c + 1 ≡ d → p ++ numbers (suc k) c l ≡ p ++ spacedNumber v ++ numbers k d l
+next-shown : (p : List ℕ) (k c d v : ℕ) (l : List ℕ) → getD l c 0 ≡ v → c + 1 ≡ d → p ++ numbers (suc k) c l ≡ p ++ spacedNumber v ++ numbers k d l
 unfolding numbers
-next p k c d v l e f =
+next-shown p k c d v l e f =
     sym (append-assoc p (spacedNumber (getD l c 0)) (numbers k (c + 1) l))
     ∙ ap (λ (n : ℕ). p ++ spacedNumber n ++ numbers k (c + 1) l) e
     ∙ ap (λ (d : ℕ). p ++ spacedNumber v ++ numbers k d l) f
 
 one-number : (p : List ℕ) (c v : ℕ) (l : List ℕ) → getD l c 0 ≡ v → p ++ numbers 1 c l ≡ p ++ spacedNumber v
 unfolding numbers
-one-number p c v l e = next p 0 c (c + 1) v l e refl ∙ append-nil (p ++ spacedNumber v)
+one-number p c v l e = next-shown p 0 c (c + 1) v l e refl ∙ append-nil (p ++ spacedNumber v)
 
 two-numbers : (p : List ℕ) (c v w : ℕ) (l : List ℕ) → getD l c 0 ≡ v → getD l (c + 1) 0 ≡ w → p ++ numbers 2 c l ≡ p ++ spacedNumber v ++ spacedNumber w
-two-numbers p c v w l e f = next p 1 c (c + 1) v l e refl ∙ one-number (p ++ spacedNumber v) (c + 1) w l f
+two-numbers p c v w l e f = next-shown p 1 c (c + 1) v l e refl ∙ one-number (p ++ spacedNumber v) (c + 1) w l f
 
 -- six, as they stand on a page
 six-numbers : (p : List ℕ) (c v : ℕ) (f : ℕ → ℕ) (l : List ℕ) → getD l c 0 ≡ v → ((k : ℕ) → k < 5 → getD l (c + 1 + k) 0 ≡ f k)
     → p ++ numbers 6 c l ≡ p ++ spacedNumber v ++ spacedNumber (f 0) ++ spacedNumber (f 1) ++ spacedNumber (f 2) ++ spacedNumber (f 3) ++ spacedNumber (f 4)
 six-numbers p c v f l e g =
-    next p 5 c (c + 1 + 0) v l e (omega arith)
-    ∙ next (p ++ spacedNumber v) 4 (c + 1 + 0) (c + 1 + 1) (f 0) l (g 0 (omega arith)) (omega arith)
-    ∙ next (p ++ spacedNumber v ++ spacedNumber (f 0)) 3 (c + 1 + 1) (c + 1 + 2) (f 1) l (g 1 (omega arith)) (omega arith)
-    ∙ next (p ++ spacedNumber v ++ spacedNumber (f 0) ++ spacedNumber (f 1)) 2 (c + 1 + 2) (c + 1 + 3) (f 2) l (g 2 (omega arith)) (omega arith)
-    ∙ next (p ++ spacedNumber v ++ spacedNumber (f 0) ++ spacedNumber (f 1) ++ spacedNumber (f 2)) 1 (c + 1 + 3) (c + 1 + 4) (f 3) l (g 3 (omega arith)) (omega arith)
+    next-shown p 5 c (c + 1 + 0) v l e (omega arith)
+    ∙ next-shown (p ++ spacedNumber v) 4 (c + 1 + 0) (c + 1 + 1) (f 0) l (g 0 (omega arith)) (omega arith)
+    ∙ next-shown (p ++ spacedNumber v ++ spacedNumber (f 0)) 3 (c + 1 + 1) (c + 1 + 2) (f 1) l (g 1 (omega arith)) (omega arith)
+    ∙ next-shown (p ++ spacedNumber v ++ spacedNumber (f 0) ++ spacedNumber (f 1)) 2 (c + 1 + 2) (c + 1 + 3) (f 2) l (g 2 (omega arith)) (omega arith)
+    ∙ next-shown (p ++ spacedNumber v ++ spacedNumber (f 0) ++ spacedNumber (f 1) ++ spacedNumber (f 2)) 1 (c + 1 + 3) (c + 1 + 4) (f 3) l (g 3 (omega arith)) (omega arith)
     ∙ one-number (p ++ spacedNumber v ++ spacedNumber (f 0) ++ spacedNumber (f 1) ++ spacedNumber (f 2) ++ spacedNumber (f 3)) (c + 1 + 4) (f 4) l (g 4 (omega arith))
 
 -- ---- the lines, of a history of fewer lines than 64 bits count
@@ -110,15 +110,15 @@ module _ (img register : List ℕ) (w : Told img register) (short : length (line
 -- ---- the line of a call, at any line of a history
 
 -- The line of a call that ends shows the place and the number of that very call: xs are the lines up to there.
-pub call-told : (x : Harness) (xs ys : List Line) → lines (heardIn x) ≡ xs ++ ys → length xs < 18446744073709551615
+pub indication-told : (x : Harness) (xs ys : List Line) → lines (heardIn x) ≡ xs ++ ys → length xs < 18446744073709551615
     → (s n : ℕ) (e : End) → s < 16 → has n (openOf (newest (posts s xs []))) ≡ true
-    → indicationLine s (placeOf s n (enteredAll xs blank)) (wordOf e) (enteredAll xs blank) ≡ callShown s n e (posts s xs [])
-unfolding callShown
-call-told x xs ys q short s n e m f =
+    → indicationLine s (placeOf s n (enteredAll xs blank)) (wordOf e) (enteredAll xs blank) ≡ indicationShown s n e (posts s xs [])
+unfolding indicationShown
+indication-told x xs ys q short s n e m f =
     ap (λ (l : List ℕ). l ++ numbers 2 (placeOf s n (enteredAll xs blank)) (enteredAll xs blank) ++ wordOf e ++ (10 ∷ []))
     (one-number (wordCall ++ spacedNumber s) (s * 24) (length (posts s xs [])) (enteredAll xs blank) (kept-openings xs fine short s m))
     ∙ ap (λ (l : List ℕ). l ++ wordOf e ++ (10 ∷ []))
-    (two-numbers (wordCall ++ spacedNumber s ++ spacedNumber (length (posts s xs []))) (placeOf s n (enteredAll xs blank)) (suc (firstOf (asked n) (newest (posts s xs [])))) n (enteredAll xs blank)
+    (two-numbers (wordCall ++ spacedNumber s ++ spacedNumber (length (posts s xs []))) (placeOf s n (enteredAll xs blank)) (suc (firstOf (isMarked n) (newest (posts s xs [])))) n (enteredAll xs blank)
     (found-place xs fine short s n m f) (found-number xs fine short s n m f))
   where
     fine : (s : ℕ) → s < 16 → (fairs s xs [] ≡ true) × (rooteds s xs 0 ≡ true)

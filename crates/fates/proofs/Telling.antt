@@ -2,7 +2,7 @@
 use Prim.Native.Nat.{ℕ}
 use mathlib.Core.Path.{_≡_, refl, sym, ap, _∙_}
 use mathlib.Core.Bool.{true}
-use mathlib.Core.List.{List, [], _∷_, _++_}
+use mathlib.Core.List.{List, []}
 use lib.ListN.{replicate}
 use lib.Dec.{ltb}
 use borrow.Author.Tests.{lt-ltb}
@@ -15,16 +15,12 @@ use Rattle.call_outcomes.specs.Leaving.{callMade}
 use Rattle.call_outcomes.specs.Fresh.{freshOf}
 use Rattle.fates_book.specs.declared.Line.{Line}
 use Rattle.fates_register.specs.Register.{blank, entered, enteredAll}
+use Rattle.fates_register.proofs.Laws.{entered-append}
 use Rattle.promises.specs.History.{saidBy, lines}
 use Rattle.promises.specs.Harness.{Lending, imageAfter, heard, Harness, heardIn, nextIn, andThen}
 use Rattle.promises.proofs.Demand3.{stays-lent}
 use Rattle.promises.proofs.Harness.{fresh-taken, image-more, lines-more}
 use Rattle.fates.specs.Told.{Told, linesBy}
-
-entered-append : (xs ys : List Line) (l : List ℕ) → enteredAll (xs ++ ys) l ≡ enteredAll ys (enteredAll xs l)
-unfolding enteredAll
-entered-append [] ys l = refl
-entered-append (x ∷ xs) ys l = entered-append xs ys (entered x l)
 
 pub told-next : (img register r : List ℕ) → Told img register → Bytes r → Told (callMade img r .image) (enteredAll (linesBy r (callMade img r)) register)
 told-next img register r w b =

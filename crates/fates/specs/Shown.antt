@@ -18,10 +18,10 @@ openingShown s h =
     ++ spacedNumber (indicated s 0 h) ++ spacedNumber (accepted s 0 h) ++ spacedNumber (denied s 0 h) ++ spacedNumber (withdrawn s 0 h) ++ spacedNumber (dropped s 0 h)
     ++ spacedNumber (leftOpenIn s 0 h) ++ (10 ∷ [])
 
--- the line of a call that ends, where stream s has these openings: of the newest one's still open calls with this number, the
--- oldest
-unfoldable pub callShown : ℕ → ℕ → End → List Opening → List ℕ
-callShown s n e b =
+-- the line of an indication that ends, where stream s has these openings: of the newest one's that are still open, with this number,
+-- the oldest
+unfoldable pub indicationShown : ℕ → ℕ → End → List Opening → List ℕ
+indicationShown s n e b =
     wordCall ++ spacedNumber s ++ spacedNumber (length b)
     ++ spacedNumber (suc (firstOf (λ (x : Indication). both (isStillOpen (x .fate)) (eqb n (x .number))) (newest b))) ++ spacedNumber n
     ++ wordOf e ++ (10 ∷ [])

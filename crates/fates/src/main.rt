@@ -1,14 +1,15 @@
 // Reads records on standard input and prints what became of each call that rang in: see docs/FATES.md.
 ghost use mathlib.Core.Path.{_≡_};
+ghost use mathlib.Core.Bool.{false};
 ghost use Prim.Native.Nat.{_+_, _<_, _≤_};
 ghost use lib.ListN.{length};
 ghost use Rattle.octets.specs.Runs.{paste};
 ghost use Rattle.fates_register.specs.Register.{enteredAll};
 ghost use Rattle.fates_report.specs.Report.{allText};
-ghost use Rattle.turns.specs.Turns.{Fine, Ready};
+ghost use Rattle.turns.specs.Turns.{callOn, afterCall, turnAfter, afterTurn, Fine, Ready};
 ghost use Rattle.call_outcomes.specs.Leaving.{callMade};
 ghost use Rattle.fates.specs.Told.{Told, linesBy};
-ghost use Rattle.fates.specs.Turns.{callOn, linesOn, textOn, called, turnAfter, tableAfter, registerAfter, outputAfter};
+ghost use Rattle.fates.specs.Turns.{linesOn, textOn};
 use turns::Turn;
 
 // One call: its lines are entered in the register, and their text goes to the output from a place on.
@@ -32,7 +33,8 @@ fn call_and_tell(
 // The call on what is not read yet, and its text behind what is printed already.
 fn called(table: &mut [u8], register: &mut [u64], input: &[u8], output: &mut [u8], t: Turn) -> Turn
     requires { ⌜ Told (now table) (now register) × (length (now register) ≡ 408) × (length (now input) ≡ 65536) × (length (now output) ≡ 65536) × Ready t × (t .calls < 18446744073709551615) ⌝ }
-    ensures { λ r. ⌜ (r ≡ called (now (table .entry)) (now (register .entry)) (now (input .entry)) t) × Fine r ⌝ }
+    // refused calls are not counted
+    ensures { λ r. ⌜ (r ≡ afterCall (now (input .entry)) (t .filled + length (textOn (now (table .entry)) (now (register .entry)) (now (input .entry)) t)) false t) × Fine r ⌝ }
     ensures { λ r. ⌜ Told (now (table .exit)) (now (register .exit)) × (now (table .exit) ≡ callOn (now (table .entry)) (now (input .entry)) t .image) × (now (register .exit) ≡ enteredAll (linesOn (now (table .entry)) (now (input .entry)) t) (now (register .entry))) ⌝ }
     ensures { λ r. ⌜ now (output .exit) ≡ paste (now (output .entry)) (t .filled) (textOn (now (table .entry)) (now (register .entry)) (now (input .entry)) t) ⌝ }
 {
@@ -46,9 +48,9 @@ fn called(table: &mut [u8], register: &mut [u64], input: &[u8], output: &mut [u8
 // at one that is cut or of an unknown kind.
 fn turned(table: &mut [u8], register: &mut [u64], input: &[u8], output: &mut [u8], t: Turn) -> Turn
     requires { ⌜ Told (now table) (now register) × (length (now register) ≡ 408) × (length (now input) ≡ 65536) × (length (now output) ≡ 65536) × Ready t ⌝ }
-    ensures { λ r. ⌜ (r ≡ turnAfter (now (table .entry)) (now (register .entry)) (now (input .entry)) t) × Fine r ⌝ }
-    ensures { λ r. ⌜ Told (now (table .exit)) (now (register .exit)) × (now (table .exit) ≡ tableAfter (now (table .entry)) (now (input .entry)) t) × (now (register .exit) ≡ registerAfter (now (table .entry)) (now (register .entry)) (now (input .entry)) t) ⌝ }
-    ensures { λ r. ⌜ now (output .exit) ≡ outputAfter (now (table .entry)) (now (register .entry)) (now (input .entry)) (now (output .entry)) t ⌝ }
+    ensures { λ r. ⌜ (r ≡ turnAfter (now (input .entry)) (textOn (now (table .entry)) (now (register .entry)) (now (input .entry)) t) false t) × Fine r ⌝ }
+    ensures { λ r. ⌜ Told (now (table .exit)) (now (register .exit)) × (now (table .exit) ≡ afterTurn t (now (table .entry)) (callOn (now (table .entry)) (now (input .entry)) t .image)) × (now (register .exit) ≡ afterTurn t (now (register .entry)) (enteredAll (linesOn (now (table .entry)) (now (input .entry)) t) (now (register .entry)))) ⌝ }
+    ensures { λ r. ⌜ now (output .exit) ≡ afterTurn t (now (output .entry)) (paste (now (output .entry)) (t .filled) (textOn (now (table .entry)) (now (register .entry)) (now (input .entry)) t)) ⌝ }
 {
     if turns::waits(t) {
         return t;

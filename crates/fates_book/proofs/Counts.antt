@@ -51,9 +51,9 @@ count-mark k n f (e ∷ o) h = go (e .number) (e .fate) h (count-mark k n f o)
         at-b false h = omega (arith, r (omega arith))
 
 -- count 0 is of all indications, each other one of those with its fate
-pub all-counted : (o : Opening) → countIn 0 o ≡ length o
-all-counted [] = refl
-all-counted (x ∷ o) = go (x .fate) (all-counted o)
+pub indications-counted : (o : Opening) → countIn 0 o ≡ length o
+indications-counted [] = refl
+indications-counted (x ∷ o) = go (x .fate) (indications-counted o)
   where
     go : (f : Fate) → countIn 0 o ≡ length o → countsAs 0 f + countIn 0 o ≡ suc (length o)
     go stillOpen r = omega arith
@@ -123,7 +123,7 @@ none-left (o ∷ b) z j = none-open b z j
 
 -- ---- what a call's lines add to the counts of the newest opening
 
-bump-first : (n : ℕ) (ts : List ℕ) → getD (bump n ts) 0 0 ≡ getD ts 0 0 + n
+pub bump-first : (n : ℕ) (ts : List ℕ) → getD (bump n ts) 0 0 ≡ getD ts 0 0 + n
 bump-first n [] = omega arith
 bump-first n (k ∷ ks) = refl
 

@@ -1,17 +1,15 @@
 -- The records written are told apart again by their bytes, as each kind has its size, and the line read at each is what its
 -- content says.
-use Prim.Native.Nat.{ℕ, zero, suc, _+_, _*_, _-_, _/_, _%_, _≤_}
+use Prim.Native.Nat.{ℕ, zero, suc, _+_, _*_, _≤_}
 use mathlib.Core.Path.{_≡_, refl, sym, ap, _∙_}
 use mathlib.Core.Bool.{Bool, true, false}
 use mathlib.Core.List.{List, [], _∷_, _++_, map}
-use lib.ListN.{length, drop, replicate, length-append, length-replicate}
+use lib.ListN.{length, drop, length-append}
 use lib.Seq.{drop-at}
 use lib.Dec.{eqb}
 use native.Mathlib.Omega.{arith}
 use borrow.Author.Tests.{eqb-false}
 use Rattle.ledger.specs.Choice.{pick, _⇒_∣_}
-use Rattle.octets.specs.Blocks.{flat}
-use Rattle.octets.proofs.Laws.{flat-length}
 use Rattle.paper.specs.RecordsOut.{Record, order, flush, up, bytesOf, allBytes, sizeOut}
 use Rattle.paper.specs.Replies.{fieldsOf, goesAsC, contentOf}
 use Rattle.paper.specs.declared.LineOrder.{LineOrder}
@@ -21,26 +19,28 @@ use Rattle.paper.specs.declared.Reply.the-variants as reply
 use Rattle.paper.specs.declared.Input.{Input}
 use Rattle.paper.specs.declared.Input.the-variants as input
 use Rattle.paper.specs.declared.Correlation.{Correlation}
+use Rattle.paper.proofs.Sizes.{up-size}
 use Rattle.fates_book.specs.declared.End.{End}
 use Rattle.fates_book.specs.declared.End.the-variants.{Accepted, Denied, Withdrawn, Dropped}
 use Rattle.fates_book.specs.declared.Line.{Line}
 use Rattle.fates_book.specs.declared.Line.the-variants.{Came, Went, Given, Nothing}
 use Rattle.fates_book.specs.Lines.{asker, parting, endLine, upLine, lineAt, recordsIn}
 use Rattle.fates_book.proofs.Said.{orderLine, replyLine, lineOf}
+use Rattle.octets.proofs.Numbers.{be32At-be32}
 
 -- ---- records told apart
 
 -- the bytes behind an order: an address of a connect, none else
-abbrev behind : LineOrder → ℕ
-behind (lineOrder.Connect at) = 7
-behind (lineOrder.Accept n) = 0
-behind (lineOrder.Disconnect n reason) = 0
-behind lineOrder.Reset = 0
-behind lineOrder.ResetAnswer = 0
+abbrev behindSize : LineOrder → ℕ
+behindSize (lineOrder.Connect at) = 7
+behindSize (lineOrder.Accept n) = 0
+behindSize (lineOrder.Disconnect n reason) = 0
+behindSize lineOrder.Reset = 0
+behindSize lineOrder.ResetAnswer = 0
 
 -- a record of its size
 abbrev pub Sized : Record → Type 0
-Sized (order i o called) = length called ≡ behind o
+Sized (order i o called) = length called ≡ behindSize o
 Sized (flush i) = 0 ≤ 0
 Sized (up i r tail) = length (fieldsOf r) * 4 + length tail ≤ 96
 
@@ -56,7 +56,7 @@ record Told (r : Record) (rest : List ℕ) : Type 0 where
   size : sizeOut kind ≡ length (bytesOf r)
   some : eqb (sizeOut kind) 0 ≡ false
 
-told-order : (i : ℕ) (o : LineOrder) (called rest : List ℕ) → length called ≡ behind o → Told (order i o called) rest
+told-order : (i : ℕ) (o : LineOrder) (called rest : List ℕ) → length called ≡ behindSize o → Told (order i o called) rest
 unfolding sizeOut _⇒_∣_
 told-order i (lineOrder.Connect at) called rest h = record { kind = 99; others = _; form = refl; size = omega arith; some = refl }
 told-order i (lineOrder.Accept n) called rest h = record { kind = 97; others = _; form = refl; size = omega arith; some = refl }
@@ -64,29 +64,23 @@ told-order i (lineOrder.Disconnect n reason) called rest h = record { kind = 100
 told-order i lineOrder.Reset called rest h = record { kind = 114; others = _; form = refl; size = omega arith; some = refl }
 told-order i lineOrder.ResetAnswer called rest h = record { kind = 115; others = _; form = refl; size = omega arith; some = refl }
 
-pub up-size : (i : ℕ) (r : Reply) (tail : List ℕ) → length (fieldsOf r) * 4 + length tail ≤ 96 → length (bytesOf (up i r tail)) ≡ 99
-unfolding contentOf
-up-size i r tail h =
-    let c : length (contentOf r tail) ≡ length (fieldsOf r) * 4 + length tail = length-append (flat (fieldsOf r)) tail ∙ ap (λ (n : ℕ). n + length tail) (flat-length (fieldsOf r)) in
-    omega (arith, length-append (contentOf r tail) (replicate (96 - length (contentOf r tail)) 0), length-replicate {A = ℕ} (96 - length (contentOf r tail)) 0)
-
 -- P or C
 kind-size : (b : Bool) → sizeOut (pick b 67 80) ≡ 99
 unfolding sizeOut _⇒_∣_
 kind-size true = refl
 kind-size false = refl
 
-told : (r : Record) (rest : List ℕ) → Sized r → Told r rest
+told-record : (r : Record) (rest : List ℕ) → Sized r → Told r rest
 unfolding sizeOut _⇒_∣_
-told (order i o called) rest h = told-order i o called rest h
-told (flush i) rest h = record { kind = 70; others = _; form = refl; size = refl; some = refl }
-told (up i r tail) rest h = record { kind = pick (goesAsC r) 67 80; others = _; form = refl; size = kind-size (goesAsC r) ∙ sym (up-size i r tail h); some = ap (λ (n : ℕ). eqb n 0) (kind-size (goesAsC r)) }
+told-record (order i o called) rest h = told-order i o called rest h
+told-record (flush i) rest h = record { kind = 70; others = _; form = refl; size = refl; some = refl }
+told-record (up i r tail) rest h = record { kind = pick (goesAsC r) 67 80; others = _; form = refl; size = kind-size (goesAsC r) ∙ sym (up-size i r tail h); some = ap (λ (n : ℕ). eqb n 0) (kind-size (goesAsC r)) }
 
 -- a record takes a byte at least
 enough-bytes : (rs : List Record) → AllSized rs → length rs ≤ length (allBytes rs)
 enough-bytes [] h = omega arith
 enough-bytes (r ∷ rs) h =
-    let z : Told r (allBytes rs) = told r (allBytes rs) (h .0) in
+    let z : Told r (allBytes rs) = told-record r (allBytes rs) (h .0) in
     let n : sizeOut (z .kind) ≡ 0 → ⊥ = eqb-false _ _ (z .some) in
     omega (arith, length-append (bytesOf r) (allBytes rs), z .size, enough-bytes rs (h .1))
 
@@ -102,7 +96,7 @@ tried [] h zero m = refl
 tried [] h (suc k) m = refl
 tried (r ∷ rs) h zero m = absurd (omega arith)
 tried (r ∷ rs) h (suc k) m =
-    let z : Told r (allBytes rs) = told r (allBytes rs) (h .0) in
+    let z : Told r (allBytes rs) = told-record r (allBytes rs) (h .0) in
     let b : List ℕ = bytesOf r ++ allBytes rs in
     ap (recordsIn (suc k)) (z .form)
     ∙ ap (λ (b : List ℕ). b ∷ recordsIn k (drop (sizeOut (z .kind)) b)) (sym (z .form))
@@ -113,9 +107,6 @@ pub told-apart : (rs : List Record) → AllSized rs → recordsIn (length (allBy
 told-apart rs h = tried rs h (length (allBytes rs)) (enough-bytes rs h)
 
 -- ---- what the line says that is read at each
-
-back : (v : ℕ) → v / 16777216 * 16777216 + v / 65536 % 256 * 65536 + v / 256 % 256 * 256 + v % 256 ≡ v
-back v = omega arith
 
 end-said : (i n : ℕ) (e : End) → endLine i n e ≡ pick (eqb n 0) Nothing (Went i n e)
 unfolding endLine _⇒_∣_
@@ -128,21 +119,21 @@ end-said i n e = go (eqb n 0)
 order-said : (q : Input) (i : ℕ) (o : LineOrder) (called rest : List ℕ) → lineAt q (bytesOf (order i o called) ++ rest) ≡ orderLine q i o
 unfolding lineAt _⇒_∣_
 order-said q i (lineOrder.Connect at) called rest = refl
-order-said q i (lineOrder.Accept n) called rest = ap (λ (m : ℕ). Went (asker q) m Accepted) (back (n .0))
-order-said q i (lineOrder.Disconnect n reason) called rest = ap (λ (m : ℕ). endLine i m (parting q)) (back (n .0)) ∙ end-said i (n .0) (parting q)
+order-said q i (lineOrder.Accept n) called rest = ap (λ (m : ℕ). Went (asker q) m Accepted) (be32At-be32 (n .0) [])
+order-said q i (lineOrder.Disconnect n reason) called rest = ap (λ (m : ℕ). endLine i m (parting q)) (be32At-be32 (n .0) []) ∙ end-said i (n .0) (parting q)
 order-said q i lineOrder.Reset called rest = refl
 order-said q i lineOrder.ResetAnswer called rest = refl
 
 reply-said : (q : Input) (i : ℕ) (r : Reply) (tail rest : List ℕ) → lineAt q (bytesOf (up i r tail) ++ rest) ≡ replyLine i r
 unfolding lineAt upLine contentOf _⇒_∣_
 reply-said q i (reply.InfoAck s) tail rest = refl
-reply-said q i (reply.BindAck sap granted) tail rest = ap (λ (m : ℕ). Given i m) (back granted)
+reply-said q i (reply.BindAck sap granted) tail rest = ap (λ (m : ℕ). Given i m) (be32At-be32 granted [])
 reply-said q i (reply.ErrorAck code error) tail rest = refl
 reply-said q i (reply.OkAck code) tail rest = refl
-reply-said q i (reply.ConnectInd n) tail rest = ap (λ (m : ℕ). Came i m) (back (n .0))
+reply-said q i (reply.ConnectInd n) tail rest = ap (λ (m : ℕ). Came i m) (be32At-be32 (n .0) [])
 reply-said q i reply.ConnectCon tail rest = refl
 reply-said q i (reply.TokenAck k) tail rest = refl
-reply-said q i (reply.DisconnectInd reason n) tail rest = ap (λ (m : ℕ). endLine i m Withdrawn) (back (n .0)) ∙ end-said i (n .0) Withdrawn
+reply-said q i (reply.DisconnectInd reason n) tail rest = ap (λ (m : ℕ). endLine i m Withdrawn) (be32At-be32 (n .0) []) ∙ end-said i (n .0) Withdrawn
 reply-said q i (reply.ResetInd reason) tail rest = refl
 reply-said q i reply.ResetCon tail rest = refl
 

@@ -238,11 +238,12 @@ length-front g [] h = absurd (omega arith)
 length-front g (o ∷ b) h = refl
 
 -- where one of the newest opening is open, there is one
-open-some : (n : ℕ) (b : List Opening) → has n (openOf (newest b)) ≡ true → 0 < length b
-open-some n [] h = absurd (omega (arith, ltb-true 0 0 h))
-open-some n (o ∷ b) h = omega arith
+pub opening-there : (n : ℕ) (b : List Opening) → 0 < occ n (openOf (newest b)) → 0 < length b
+opening-there n [] h = absurd (omega arith)
+opening-there n (o ∷ b) h = omega arith
 
-length-post : (s : ℕ) (y : Line) (b : List Opening) → fair s y (openOf (newest b)) ≡ true → rooted s y (length b) ≡ true → length (post s y b) ≡ openings s y (length b)
+-- only the beginning of an opening adds one
+pub length-post : (s : ℕ) (y : Line) (b : List Opening) → fair s y (openOf (newest b)) ≡ true → rooted s y (length b) ≡ true → length (post s y b) ≡ openings s y (length b)
 length-post s (Began i) b f r = pick-to length (eqb s i) ([] ∷ b) b refl
 length-post s (Came i n) b f r = go (eqb s i) r
   where
@@ -252,7 +253,7 @@ length-post s (Came i n) b f r = go (eqb s i) r
 length-post s (Went i n e) b f r = go (eqb s i) f
   where
     go : (q : Bool) → pick q (has n (openOf (newest b))) true ≡ true → length (pick q (onNewest (mark n e) b) b) ≡ length b
-    go true h = length-front (mark n e) b (open-some n b h)
+    go true h = length-front (mark n e) b (opening-there n b (ltb-true _ _ h))
     go false h = refl
 length-post s (Given i g) b f r = refl
 length-post s Nothing b f r = refl

@@ -103,8 +103,8 @@ telling (Nothing ∷ ys) = telling ys
 abbrev pub isMessageOf : ℕ → List ℕ → Bool
 isMessageOf i r = both (isMessage (getD r 0 0)) (eqb (getD r 1 0) i)
 
--- an O that a stream was opened; an I that a call rang in; a message what its stream was granted, and that a call of its stream was
--- accepted or denied; a W that its own was withdrawn; an X that one of its stream was dropped
+-- an O that a stream was opened; an I that an indication came; a message what its stream was granted, and that an indication of its
+-- stream was accepted or denied; a W that its own was withdrawn; an X that one of its stream was dropped
 abbrev pub mayBeSaid : List ℕ → Line → Bool
 mayBeSaid r (Began i) = eqb (getD r 0 0) 79
 mayBeSaid r (Came i n) = eqb (getD r 0 0) 73

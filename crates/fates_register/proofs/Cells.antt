@@ -2,51 +2,21 @@
 use Prim.Native.Nat.{ℕ, zero, suc, _+_, _*_, _≤_, _<_}
 use mathlib.Core.Path.{_≡_, refl, ap, _∙_}
 use mathlib.Core.Logic.{_≢_}
-use mathlib.Core.Bool.{Bool, true, false}
 use mathlib.Core.List.{List}
-use lib.ListN.{length, getD, set, replicate, length-set}
-use lib.Dec.{eqb, ltb}
+use lib.ListN.{length, getD, set, length-set}
+use lib.Dec.{eqb}
 use lib.Seq.{getD-set-same, getD-set-other}
 use native.Mathlib.Omega.{arith}
-use borrow.Author.Tests.{eqb-true, eqb-false, eq-eqb, ne-eqb, ltb-true, ltb-false}
+use borrow.Author.Tests.{ne-eqb}
 use Rattle.ledger.specs.Tally.{oneIf}
-use Rattle.ledger.proofs.Tallies.{skip}
+use Rattle.ledger.proofs.Tallies.{skip, one-same, one-other, by-same}
 use Rattle.fates_register.specs.Register.{oneMore, raised, counting, closeUp, cleared}
 
 -- ---- cases
 
--- two numbers are the same or differ
-pub by-same : {P : Type 0} (m n : ℕ) → (m ≡ n → P) → (m ≢ n → P) → P
-by-same {P} m n f g = go (eqb m n) refl
-  where
-    go : (b : Bool) → eqb m n ≡ b → P
-    go true e = f (eqb-true m n e)
-    go false e = g (eqb-false m n e)
-
--- a number is less than another or not
-pub by-order : {P : Type 0} (m n : ℕ) → (m < n → P) → (n ≤ m → P) → P
-by-order {P} m n f g = go (ltb m n) refl
-  where
-    go : (b : Bool) → ltb m n ≡ b → P
-    go true e = f (ltb-true m n e)
-    go false e = g (ltb-false m n e)
-
--- one where two numbers are the same, none where they differ
-pub one-same : (m n : ℕ) → m ≡ n → oneIf (eqb m n) ≡ 1
-one-same m n e = rw (eq-eqb m n e)
-
-pub one-other : (m n : ℕ) → m ≢ n → oneIf (eqb m n) ≡ 0
-one-other m n e = rw (ne-eqb m n e)
-
 -- a cell by another name
 pub cell : (l : List ℕ) (m n : ℕ) → m ≡ n → getD l m 0 ≡ getD l n 0
 cell l m n e = ap (λ (k : ℕ). getD l k 0) e
-
--- every cell of a list of zeros is zero
-pub zeros : (n j : ℕ) → _≡_ {A = ℕ} (getD (replicate n 0) j 0) 0
-zeros zero j = refl
-zeros (suc n) zero = refl
-zeros (suc n) (suc j) = zeros n j
 
 -- ---- a count goes up
 

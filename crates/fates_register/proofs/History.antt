@@ -14,11 +14,11 @@ use Rattle.fates_book.specs.declared.End.{End}
 use Rattle.fates_book.specs.declared.Line.{Line}
 use Rattle.fates_book.specs.declared.Line.the-variants.{Began, Came, Went, Given, Nothing}
 use Rattle.fates_book.specs.Book.{Opening, openOf, openCount, mark, noted, newest, onNewest, post, posts, countOf, bump, tallyLine, tallies, overStreams}
-use Rattle.ledger.proofs.Sums.{pick-to, of-asks}
-use Rattle.fates_book.proofs.Shades.{shade, fair, fairs, openings, rooted, rooteds, open-post}
+use Rattle.ledger.proofs.Sums.{of-asks}
+use Rattle.ledger.proofs.Lists.{replicate-at}
+use Rattle.fates_book.proofs.Shades.{shade, fair, fairs, openings, rooted, rooteds, open-post, length-post, opening-there}
 use Rattle.fates_register.specs.Register.{blank, begun, rung, gone, entered, enteredAll}
-use Rattle.fates_register.proofs.Cells.{zeros}
-use Rattle.fates_register.proofs.Pages.{onPage, inAll, Page, page-aside, more-all, begun-all, end-count, begun-page, opening-there, rung-outside, rung-page, gone-outside, gone-page}
+use Rattle.fates_register.proofs.Pages.{onPage, inAll, Page, page-aside, more-all, begun-all, end-count, begun-page, rung-outside, rung-page, gone-outside, gone-page}
 use Rattle.fates_register.proofs.Whole.{over-none, over-same, over-one, Change, change-counted, change-begun}
 
 -- ---- the register against the book
@@ -43,14 +43,14 @@ pub kept-blank : Kept blank (λ s. []) (λ k s. []) 0
 kept-blank = record {
   size = length-replicate {A = ℕ} 408 0;
   pages = λ s h. record {
-    counts = λ a d. zeros 408 (s * 24 + a) ∙ sym (none-on a);
-    places = record { cells = λ j d. zeros 408 (s * 24 + 6 + j) };
+    counts = λ a d. replicate-at {A = ℕ} 408 0 (s * 24 + a) ∙ sym (none-on a);
+    places = record { cells = λ j d. replicate-at {A = ℕ} 408 0 (s * 24 + 6 + j) };
     few = omega arith;
     whole = refl;
-    most = λ a d. omega (arith, zeros 408 (s * 24 + a));
+    most = λ a d. omega (arith, replicate-at {A = ℕ} 408 0 (s * 24 + a));
   };
-  table = λ a h. zeros 408 (384 + a) ∙ sym (over-same 16 (λ s. 0) (λ s. inAll a [] (λ k. [])) (λ s d. none-in a) ∙ over-none 16);
-  most = λ a h. omega (arith, zeros 408 (384 + a));
+  table = λ a h. replicate-at {A = ℕ} 408 0 (384 + a) ∙ sym (over-same 16 (λ s. 0) (λ s. inAll a [] (λ k. [])) (λ s d. none-in a) ∙ over-none 16);
+  most = λ a h. omega (arith, replicate-at {A = ℕ} 408 0 (384 + a));
 }
 
 -- ---- one line
@@ -96,8 +96,8 @@ kept-beyond l b t m i b′ t′ h r = record {
     at s n false e = page-aside l l s (b s) (λ k. t k s) m (λ a k. refl) (r .pages s n)
 
 -- what a line says of its own stream, where it is fair and comes to an opening
-own : (i : ℕ) (q : Bool) → pick (eqb i i) q true ≡ true → q ≡ true
-own i q h = of-asks (eqb i i) q h (eq-eqb i i refl)
+of-own : (i : ℕ) (q : Bool) → pick (eqb i i) q true ≡ true → q ≡ true
+of-own i q h = of-asks (eqb i i) q h (eq-eqb i i refl)
 
 module _ (l : List ℕ) (b : ℕ → List Opening) (t : ℕ → ℕ → List ℕ) (m i : ℕ) (h : i < 16) (u : m < 18446744073709551615) (r : Kept l b t m) where
   kept-began : Kept (begun i l) (λ s. pick (eqb s i) ([] ∷ b s) (b s)) (λ k s. pick (eqb s i) (0 ∷ t k s) (t k s)) (suc m)
@@ -128,36 +128,16 @@ kept-line (Began i) l b t m u f r =
     (λ e. kept-beyond l b t m i (λ s. [] ∷ b s) (λ k s. 0 ∷ t k s) (ltb-false i 16 e) r)
 kept-line (Came i n) l b t m u f r =
     chosen (λ (l′ : List ℕ). Kept l′ (λ s. post s (Came i n) (b s)) (λ k s. tallyLine k s (Came i n) (t k s)) (suc m)) (ltb i 16) (rung i n l) l
-    (λ e. kept-came l b t m i (ltb-true i 16 e) u r n (ltb-true 0 (length (b i)) (own i (ltb 0 (length (b i))) (f i (ltb-true i 16 e) .1))) (ltb-true (openCount (newest (b i))) 8 (own i (ltb (openCount (newest (b i))) 8) (f i (ltb-true i 16 e) .0))))
+    (λ e. kept-came l b t m i (ltb-true i 16 e) u r n (ltb-true 0 (length (b i)) (of-own i (ltb 0 (length (b i))) (f i (ltb-true i 16 e) .1))) (ltb-true (openCount (newest (b i))) 8 (of-own i (ltb (openCount (newest (b i))) 8) (f i (ltb-true i 16 e) .0))))
     (λ e. kept-beyond l b t m i (λ s. onNewest (noted n) (b s)) (λ k s. bump (oneIf (eqb k 0)) (t k s)) (ltb-false i 16 e) r)
 kept-line (Went i n e) l b t m u f r =
     chosen (λ (l′ : List ℕ). Kept l′ (λ s. post s (Went i n e) (b s)) (λ k s. tallyLine k s (Went i n e) (t k s)) (suc m)) (ltb i 16) (gone i n e l) l
-    (λ q. kept-went l b t m i (ltb-true i 16 q) u r n e (ltb-true 0 (occ n (openOf (newest (b i)))) (own i (has n (openOf (newest (b i)))) (f i (ltb-true i 16 q) .0))))
+    (λ q. kept-went l b t m i (ltb-true i 16 q) u r n e (ltb-true 0 (occ n (openOf (newest (b i)))) (of-own i (has n (openOf (newest (b i)))) (f i (ltb-true i 16 q) .0))))
     (λ q. kept-beyond l b t m i (λ s. onNewest (mark n e) (b s)) (λ k s. bump (oneIf (eqb k (countOf e))) (t k s)) (ltb-false i 16 q) r)
 kept-line (Given i g) l b t m u f r = kept-still l b t m r
 kept-line Nothing l b t m u f r = kept-still l b t m r
 
 -- ---- a history
-
-length-on : (g : Opening → Opening) (b : List Opening) → 0 < length b → length (onNewest g b) ≡ length b
-length-on g [] h = absurd (omega arith)
-length-on g (o ∷ b) h = refl
-
--- only the beginning of an opening adds one
-pub length-post : (s : ℕ) (y : Line) (b : List Opening) → fair s y (openOf (newest b)) ≡ true → rooted s y (length b) ≡ true → length (post s y b) ≡ openings s y (length b)
-length-post s (Began i) b f h = pick-to length (eqb s i) ([] ∷ b) b refl
-length-post s (Came i n) b f h = go (eqb s i) h
-  where
-    go : (q : Bool) → pick q (ltb 0 (length b)) true ≡ true → length (pick q (onNewest (noted n) b) b) ≡ length b
-    go true h = length-on (noted n) b (ltb-true 0 (length b) h)
-    go false h = refl
-length-post s (Went i n e) b f h = go (eqb s i) f
-  where
-    go : (q : Bool) → pick q (has n (openOf (newest b))) true ≡ true → length (pick q (onNewest (mark n e) b) b) ≡ length b
-    go true f = length-on (mark n e) b (opening-there n b (ltb-true 0 (occ n (openOf (newest b))) f))
-    go false f = refl
-length-post s (Given i g) b f h = refl
-length-post s Nothing b f h = refl
 
 -- the lines keep the register, from any register that is kept
 pub kept-lines : (ys : List Line) (l : List ℕ) (b : ℕ → List Opening) (t : ℕ → ℕ → List ℕ) (m : ℕ) → m + length ys < 18446744073709551615

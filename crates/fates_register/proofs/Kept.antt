@@ -15,7 +15,7 @@ use Rattle.fates_book.specs.Book.{met, openOf, openCount, mark, newest, posts, 
 use Rattle.fates_book.proofs.Shades.{shade, fair, fairs, openings, rooted, rooteds}
 use Rattle.fates_register.specs.Register.{blank, placeOf, openOn, firstFree, enteredAll}
 use Rattle.fates_register.proofs.Cells.{cell}
-use Rattle.fates_register.proofs.Places.{placesFrom, asked, spot, places-length, Ended, ended}
+use Rattle.fates_register.proofs.Places.{placesFrom, isMarked, spot, places-length, Ended, ended}
 use Rattle.fates_register.proofs.Row.{narrower, free-at}
 use Rattle.fates_register.proofs.Pages.{place-at}
 use Rattle.fates_register.proofs.History.{Kept, kept-blank, kept-lines}
@@ -66,7 +66,7 @@ module _ (ys : List Line) (fine : (s : ℕ) → s < 16 → (fairs s ys [] ≡ tr
 
   -- A number n that is open on stream i:
   module _ (i n : ℕ) (h : i < 16) (f : has n (openOf (newest (posts i ys []))) ≡ true) where
-    found : Ended n Accepted (newest (posts i ys [])) (mark n Accepted (newest (posts i ys []))) (spot n (newest (posts i ys []))) (firstOf (asked n) (newest (posts i ys [])))
+    found : Ended n Accepted (newest (posts i ys [])) (mark n Accepted (newest (posts i ys []))) (spot n (newest (posts i ys []))) (firstOf (isMarked n) (newest (posts i ys [])))
     found = ended n Accepted (newest (posts i ys [])) (ltb-true 0 (occ n (openOf (newest (posts i ys [])))) f)
 
     found-at : placeOf i n (enteredAll ys blank) ≡ i * 24 + 6 + spot n (newest (posts i ys []))
@@ -77,7 +77,7 @@ module _ (ys : List Line) (fine : (s : ℕ) → s < 16 → (fairs s ys [] ≡ tr
     found-within = omega (arith, found-at, found .less, kept-few i h)
 
     -- There stands the place, counted from 1, of the oldest indication of the newest opening that is still open with this number.
-    pub found-place : getD (enteredAll ys blank) (placeOf i n (enteredAll ys blank)) 0 ≡ suc (firstOf (asked n) (newest (posts i ys [])))
+    pub found-place : getD (enteredAll ys blank) (placeOf i n (enteredAll ys blank)) 0 ≡ suc (firstOf (isMarked n) (newest (posts i ys [])))
     found-place =
         cell (enteredAll ys blank) (placeOf i n (enteredAll ys blank)) (i * 24 + 6 + spot n (newest (posts i ys []))) found-at
         ∙ kept-places i (spot n (newest (posts i ys []))) h (omega (arith, found .less, kept-few i h))
@@ -92,11 +92,11 @@ module _ (ys : List Line) (fine : (s : ℕ) → s < 16 → (fairs s ys [] ≡ tr
         ∙ found .number 1
 
     -- That place is one of the opening.
-    pub found-inside : firstOf (asked n) (newest (posts i ys [])) < length (newest (posts i ys []))
+    pub found-inside : firstOf (isMarked n) (newest (posts i ys [])) < length (newest (posts i ys []))
     found-inside = found .inside
 
     -- And the indication there is the one that ends as the number meets an end: its fate changes, and nothing else does.
-    pub found-ends : (e : End) → mark n e (newest (posts i ys [])) ≡ set (newest (posts i ys [])) (firstOf (asked n) (newest (posts i ys []))) (record { number = n; fate = met e })
+    pub found-ends : (e : End) → mark n e (newest (posts i ys [])) ≡ set (newest (posts i ys [])) (firstOf (isMarked n) (newest (posts i ys []))) (record { number = n; fate = met e })
     found-ends e = ended n e (newest (posts i ys [])) (ltb-true 0 (occ n (openOf (newest (posts i ys [])))) f) .only
 
 -- ---- the beginning of a history

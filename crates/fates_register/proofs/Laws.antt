@@ -1,13 +1,14 @@
--- One step of each walk over cells, where some are left.
+-- One step of each walk over cells, where some are left; and lines that are entered in two goes.
 use Prim.Native.Nat.{ℕ, zero, suc, _+_, _-_, _<_}
 use native.Mathlib.Omega.{arith}
-use mathlib.Core.Path.{_≡_}
+use mathlib.Core.Path.{_≡_, refl}
 use mathlib.Core.Bool.{Bool}
-use mathlib.Core.List.{List}
+use mathlib.Core.List.{List, [], _∷_, _++_}
 use lib.ListN.{getD, set}
 use lib.Dec.{eqb, ltb}
 use Rattle.ledger.specs.Choice.{both, _⇒_∣_}
-use Rattle.fates_register.specs.Register.{freeFrom, findFrom, closeUp, cleared}
+use Rattle.fates_register.specs.Register.{freeFrom, findFrom, closeUp, cleared, entered, enteredAll}
+use Rattle.fates_book.specs.declared.Line.{Line}
 
 pub free-on : (k c : ℕ) (l : List ℕ) (b : Bool) → 0 < k → eqb (getD l c 0) 0 ≡ b → freeFrom k c l ≡ (b ⇒ c ∣ freeFrom (k - 1) (c + 2) l)
 unfolding freeFrom
@@ -36,3 +37,9 @@ clear-on zero c l h = absurd (omega arith)
 clear-on (suc k) c l h =
     let s : suc k - 1 ≡ k = omega arith in
     rw s
+
+-- the lines of two lists, one behind the other
+pub entered-append : (xs ys : List Line) (l : List ℕ) → enteredAll (xs ++ ys) l ≡ enteredAll ys (enteredAll xs l)
+unfolding enteredAll
+entered-append [] ys l = refl
+entered-append (x ∷ xs) ys l = entered-append xs ys (entered x l)

@@ -9,15 +9,16 @@ use lib.Seq.{getD-set-other}
 use native.Mathlib.Omega.{arith}
 use borrow.Author.Tests.{lt-ltb}
 use Rattle.ledger.specs.Tally.{oneIf, occ, sumOf, firstOf}
-use Rattle.ledger.proofs.Tallies.{one-most, length-without-le}
+use Rattle.ledger.proofs.Tallies.{one-most, length-without-le, hold, one-other, by-order}
 use Rattle.fates_book.specs.declared.End.{End}
 use Rattle.fates_book.specs.declared.End.the-variants.{Accepted, Denied, Withdrawn, Dropped}
 use Rattle.fates_book.specs.Book.{Opening, openOf, openCount, mark, noted, newest, onNewest, countOf, bump}
-use Rattle.fates_book.proofs.Shades.{open-noted, open-mark}
+use Rattle.fates_book.proofs.Shades.{open-noted, open-mark, opening-there}
+use Rattle.fates_book.proofs.Counts.{bump-first}
 use Rattle.fates_register.specs.Register.{counting, cleared, closeUp, firstFree, placeOf, begun, standingAt, placed, rung, removed, gone}
-use Rattle.fates_register.proofs.Cells.{by-order, one-other, cell, cleared-length, cleared-before, cleared-behind, cleared-in, closed-length, closed-before, closed-behind, counting-length, counting-other, counting-stream}
-use Rattle.fates_register.proofs.Places.{placesFrom, asked, spot, places-length, places-noted, length-noted, length-mark, Ended, ended}
-use Rattle.fates_register.proofs.Row.{Reads, takes, narrower, free-at, find-at, still-reads, reads-more, reads-less}
+use Rattle.fates_register.proofs.Cells.{cell, cleared-length, cleared-before, cleared-behind, cleared-in, closed-length, closed-before, closed-behind, counting-length, counting-other, counting-stream}
+use Rattle.fates_register.proofs.Places.{placesFrom, isMarked, spot, places-length, places-noted, length-noted, length-mark, Ended, ended}
+use Rattle.fates_register.proofs.Row.{Reads, narrower, free-at, find-at, still-reads, reads-more, reads-less}
 
 -- ---- what a page holds
 
@@ -51,10 +52,6 @@ page-aside l l′ s b t m e r = record {
 
 -- ---- counts
 
-bump-newest : (d : ℕ) (ks : List ℕ) → getD (bump d ks) 0 0 ≡ getD ks 0 0 + d
-bump-newest d [] = omega arith
-bump-newest d (k ∷ ks) = refl
-
 bump-all : (d : ℕ) (ks : List ℕ) → sumOf (λ (n : ℕ). n) (bump d ks) ≡ sumOf (λ (n : ℕ). n) ks + d
 bump-all d [] = omega arith
 bump-all d (k ∷ ks) = omega arith
@@ -63,7 +60,7 @@ bump-all d (k ∷ ks) = omega arith
 pub more-page : (a j : ℕ) (g : Opening → Opening) (b : List Opening) (t : ℕ → List ℕ) → 0 < length b → onPage a (onNewest g b) (λ k. bump (oneIf (eqb k j)) (t k)) ≡ onPage a b t + oneIf (eqb a (suc j))
 more-page zero j g [] t h = absurd (omega arith)
 more-page zero j g (o ∷ b) t h = omega (arith, one-other 0 (suc j) (omega arith))
-more-page (suc k) j g b t h = bump-newest (oneIf (eqb k j)) (t k) ∙ ap (λ (q : Bool). getD (t k) 0 0 + oneIf q) (sym (eqb·suc-suc k j))
+more-page (suc k) j g b t h = bump-first (oneIf (eqb k j)) (t k) ∙ ap (λ (q : Bool). getD (t k) 0 0 + oneIf q) (sym (eqb·suc-suc k j))
 
 pub more-all : (a j : ℕ) (g : Opening → Opening) (b : List Opening) (t : ℕ → List ℕ) → 0 < length b → inAll a (onNewest g b) (λ k. bump (oneIf (eqb k j)) (t k)) ≡ inAll a b t + oneIf (eqb a (suc j))
 more-all zero j g [] t h = absurd (omega arith)
@@ -143,11 +140,6 @@ module _ (l : List ℕ) (i : ℕ) (b : List Opening) (t : ℕ → List ℕ) (m :
 
 -- ---- one comes or ends: a count of the newest opening goes up, and the row of those still open changes
 
--- of a stream where a number is open there is an opening
-pub opening-there : (n : ℕ) (b : List Opening) → 0 < occ n (openOf (newest b)) → 0 < length b
-opening-there n [] h = absurd (omega arith)
-opening-there n (o ∷ b) h = omega arith
-
 module _ (l : List ℕ) (i : ℕ) (t : ℕ → List ℕ) (m : ℕ) (h : i < 16) (z : length l ≡ 408) (u : m < 18446744073709551615) where
   -- a count leaves the row as it is
   counting-places : (c : ℕ) (v : List ℕ) → c < 6 → Reads l (i * 24 + 6) 18 v → Reads (counting i c l) (i * 24 + 6) 18 v
@@ -162,7 +154,7 @@ module _ (l : List ℕ) (i : ℕ) (t : ℕ → List ℕ) (m : ℕ) (h : i < 16) 
     counts = λ a q. up a q ∙ ap (λ (k : ℕ). k + oneIf (eqb a c)) (r .counts a q) ∙ ap (λ (k : ℕ). onPage a (x ∷ b) t + oneIf (eqb a k)) e ∙ sym (more-page a j g (x ∷ b) t n);
     places = p;
     few = f;
-    whole = w ∙ ap (λ (k : ℕ). k + oneIf (eqb 0 j)) (r .whole) ∙ sym (bump-newest (oneIf (eqb 0 j)) (t 0));
+    whole = w ∙ ap (λ (k : ℕ). k + oneIf (eqb 0 j)) (r .whole) ∙ sym (bump-first (oneIf (eqb 0 j)) (t 0));
     most = λ a q. omega (arith, up a q, r .most a q, one-most (eqb a c));
   }
     where
@@ -173,7 +165,7 @@ module _ (l : List ℕ) (i : ℕ) (t : ℕ → List ℕ) (m : ℕ) (h : i < 16) 
 
 placed-is : (i n c : ℕ) (l : List ℕ) → firstFree i l ≡ c → c < i * 24 + 22 → placed i n l ≡ standingAt i n c l
 unfolding placed
-placed-is i n c l e h = takes _ _ _ (lt-ltb (firstFree i l) (i * 24 + 22) (omega arith)) ∙ ap (λ (k : ℕ). standingAt i n k l) e
+placed-is i n c l e h = hold _ _ _ (lt-ltb (firstFree i l) (i * 24 + 22) (omega arith)) ∙ ap (λ (k : ℕ). standingAt i n k l) e
 
 -- the first free cell of a page
 abbrev freeCell : ℕ → List Opening → ℕ
@@ -210,7 +202,7 @@ module _ (l : List ℕ) (i n : ℕ) (b : List Opening) (t : ℕ → List ℕ) (m
 
 removed-is : (i n c : ℕ) (l : List ℕ) → placeOf i n l ≡ c → c < i * 24 + 22 → removed i n l ≡ closeUp (i * 24 + 22 - c) c l
 unfolding removed
-removed-is i n c l e h = takes _ _ _ (lt-ltb (placeOf i n l) (i * 24 + 22) (omega arith)) ∙ ap (λ (k : ℕ). closeUp (i * 24 + 22 - k) k l) e
+removed-is i n c l e h = hold _ _ _ (lt-ltb (placeOf i n l) (i * 24 + 22) (omega arith)) ∙ ap (λ (k : ℕ). closeUp (i * 24 + 22 - k) k l) e
 
 -- the cell of the oldest that is still open with a number
 pub place-at : (l : List ℕ) (i n : ℕ) (o : Opening) → Reads l (i * 24 + 6) 18 (placesFrom 1 o) → openCount o ≤ 8 → 0 < occ n (openOf o) → placeOf i n l ≡ i * 24 + 6 + spot n o
@@ -221,7 +213,7 @@ module _ (l : List ℕ) (i n : ℕ) (e : End) (b : List Opening) (t : ℕ → Li
   gone-reads′ : Reads (counting i (countOf e + 1) l) (i * 24 + 6) 18 (placesFrom 1 (newest b))
   gone-reads′ = counting-places l i t m h z u (countOf e + 1) (placesFrom 1 (newest b)) (omega (arith, end-count e)) (r .places)
 
-  gone-end : Ended n e (newest b) (mark n e (newest b)) (spot n (newest b)) (firstOf (asked n) (newest b))
+  gone-end : Ended n e (newest b) (mark n e (newest b)) (spot n (newest b)) (firstOf (isMarked n) (newest b))
   gone-end = ended n e (newest b) f
 
   gone-is : gone i n e l ≡ closeUp (i * 24 + 22 - (i * 24 + 6 + spot n (newest b))) (i * 24 + 6 + spot n (newest b)) (counting i (countOf e + 1) l)

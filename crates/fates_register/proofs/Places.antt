@@ -18,8 +18,8 @@ placesFrom p [] = []
 placesFrom p (x ∷ o) = pick (isStillOpen (x .fate)) (p ∷ x .number ∷ placesFrom (suc p) o) (placesFrom (suc p) o)
 
 -- still open, with number n: whom `mark n` asks for
-abbrev pub asked : ℕ → Indication → Bool
-asked n x = both (isStillOpen (x .fate)) (eqb n (x .number))
+abbrev pub isMarked : ℕ → Indication → Bool
+isMarked n x = both (isStillOpen (x .fate)) (eqb n (x .number))
 
 -- where the oldest of those begins among the places
 abbrev pub spot : ℕ → Opening → ℕ
@@ -51,7 +51,7 @@ length-noted n o = length-append o _
 
 pub length-mark : (n : ℕ) (e : End) (o : Opening) → length (mark n e o) ≡ length o
 length-mark n e [] = refl
-length-mark n e (x ∷ o) = go (asked n x) (length-mark n e o)
+length-mark n e (x ∷ o) = go (isMarked n x) (length-mark n e o)
   where
     go : (b : Bool) → length (mark n e o) ≡ length o → length (pick b (record { number = x .number; fate = met e } ∷ o) (x ∷ mark n e o)) ≡ suc (length o)
     go true r = refl
@@ -119,16 +119,16 @@ ended-later n m e o o′ d k r = record {
     behind′ p (suc (suc j)) h = r .behind (suc p) j (omega arith)
 
 -- a number that is still open ends at its oldest
-pub ended : (n : ℕ) (e : End) (o : Opening) → 0 < occ n (openOf o) → Ended n e o (mark n e o) (spot n o) (firstOf (asked n) o)
+pub ended : (n : ℕ) (e : End) (o : Opening) → 0 < occ n (openOf o) → Ended n e o (mark n e o) (spot n o) (firstOf (isMarked n) o)
 ended n e [] h = absurd (omega arith)
 ended n e (x ∷ o) h = go (x .number) (x .fate) h (ended n e o)
   where
-    go : (m : ℕ) (q : Fate) → 0 < occ n (openOf (record { number = m; fate = q } ∷ o)) → (0 < occ n (openOf o) → Ended n e o (mark n e o) (spot n o) (firstOf (asked n) o))
-        → Ended n e (record { number = m; fate = q } ∷ o) (mark n e (record { number = m; fate = q } ∷ o)) (spot n (record { number = m; fate = q } ∷ o)) (firstOf (asked n) (record { number = m; fate = q } ∷ o))
-    go m (met f) h r = ended-past n m e f o (mark n e o) (spot n o) (firstOf (asked n) o) (r h)
+    go : (m : ℕ) (q : Fate) → 0 < occ n (openOf (record { number = m; fate = q } ∷ o)) → (0 < occ n (openOf o) → Ended n e o (mark n e o) (spot n o) (firstOf (isMarked n) o))
+        → Ended n e (record { number = m; fate = q } ∷ o) (mark n e (record { number = m; fate = q } ∷ o)) (spot n (record { number = m; fate = q } ∷ o)) (firstOf (isMarked n) (record { number = m; fate = q } ∷ o))
+    go m (met f) h r = ended-past n m e f o (mark n e o) (spot n o) (firstOf (isMarked n) o) (r h)
     go m stillOpen h r = at-b (eqb n m) refl h
       where
         at-b : (b : Bool) → eqb n m ≡ b → 0 < oneIf b + occ n (openOf o)
-            → Ended n e (record { number = m; fate = stillOpen } ∷ o) (pick b (record { number = m; fate = met e } ∷ o) (record { number = m; fate = stillOpen } ∷ mark n e o)) (pick b 0 (suc (suc (spot n o)))) (pick b 0 (suc (firstOf (asked n) o)))
+            → Ended n e (record { number = m; fate = stillOpen } ∷ o) (pick b (record { number = m; fate = met e } ∷ o) (record { number = m; fate = stillOpen } ∷ mark n e o)) (pick b 0 (suc (suc (spot n o)))) (pick b 0 (suc (firstOf (isMarked n) o)))
         at-b true q h = ended-first n m e o (eqb-true n m q)
-        at-b false q h = ended-later n m e o (mark n e o) (spot n o) (firstOf (asked n) o) (r (omega arith))
+        at-b false q h = ended-later n m e o (mark n e o) (spot n o) (firstOf (isMarked n) o) (r (omega arith))

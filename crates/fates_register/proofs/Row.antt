@@ -5,15 +5,16 @@ use mathlib.Core.Bool.{Bool, true, false}
 use mathlib.Core.List.{List, [], _∷_, _++_}
 use lib.ListN.{length, getD, set, length-set, length-append, List·getD-append, List·getD-eq-default}
 use lib.Dec.{eqb, ltb}
-use lib.Seq.{getD-set-same, getD-set-other, getD-append-add}
+use lib.Seq.{getD-set-same, getD-set-other}
 use native.Mathlib.Omega.{arith}
 use borrow.Author.Tests.{eqb-true, eqb-false, eq-eqb, ne-eqb, lt-ltb}
-use Rattle.ledger.specs.Choice.{pick, _⇒_∣_}
+use Rattle.ledger.specs.Choice.{pick}
 use Rattle.ledger.specs.Tally.{oneIf, occ}
-use Rattle.ledger.proofs.Tallies.{skip, both-none}
+use Rattle.ledger.proofs.Tallies.{skip, both-none, hold, by-same, by-order}
+use Rattle.ledger.proofs.Lists.{tail-at}
 use Rattle.fates_book.specs.Book.{Opening, isStillOpen, openOf, openCount}
 use Rattle.fates_register.specs.Register.{freeFrom, findFrom, closeUp}
-use Rattle.fates_register.proofs.Cells.{by-same, by-order, cell, closed-before, closed-in, closed-behind}
+use Rattle.fates_register.proofs.Cells.{cell, closed-before, closed-in, closed-behind}
 use Rattle.fates_register.proofs.Places.{placesFrom, spot}
 
 -- the w cells from c on hold the elements of v, then zeros
@@ -35,17 +36,13 @@ next-cells l c k a b v r = record { cells = λ j h. cell l (c + 2 + j) (c + suc 
 
 -- ---- the first free place
 
-pub takes : {A : Type 0} (b : Bool) (x y : A) → b ≡ true → (b ⇒ x ∣ y) ≡ x
-unfolding _⇒_∣_
-takes b x y e = rw e
-
 free-none : (c : ℕ) (l : List ℕ) → freeFrom 0 c l ≡ c
 unfolding freeFrom
 free-none c l = refl
 
 free-here : (k c : ℕ) (l : List ℕ) → getD l c 0 ≡ 0 → freeFrom (suc k) c l ≡ c
 unfolding freeFrom
-free-here k c l e = takes _ _ _ (eq-eqb (getD l c 0) 0 e)
+free-here k c l e = hold _ _ _ (eq-eqb (getD l c 0) 0 e)
 
 free-next : (k c : ℕ) (l : List ℕ) → 0 < getD l c 0 → freeFrom (suc k) c l ≡ freeFrom k (c + 2) l
 unfolding freeFrom
@@ -70,7 +67,7 @@ free-at l (x ∷ o) k c p z h r = go k (isStillOpen (x .fate)) h r (λ k c. free
 
 find-here : (k c n : ℕ) (l : List ℕ) → 0 < getD l c 0 → getD l (c + 1) 0 ≡ n → findFrom (suc k) c n l ≡ c
 unfolding findFrom
-find-here k c n l h e = takes _ _ _ (rw (lt-ltb 0 (getD l c 0) h) (eq-eqb (getD l (c + 1) 0) n e))
+find-here k c n l h e = hold _ _ _ (rw (lt-ltb 0 (getD l c 0) h) (eq-eqb (getD l (c + 1) 0) n e))
 
 find-next : (k c n : ℕ) (l : List ℕ) → (getD l (c + 1) 0 ≡ n → ⊥) → findFrom (suc k) c n l ≡ findFrom k (c + 2) n l
 unfolding findFrom
@@ -96,10 +93,6 @@ find-at l n (x ∷ o) k c p z h f r = go k (isStillOpen (x .fate)) h f r (λ k c
             ∙ omega arith
 
 -- ---- the row after a change
-
--- a list has beyond another what was put behind that
-tail-at : (v u : List ℕ) (j k : ℕ) → j ≡ length v + k → getD (v ++ u) j 0 ≡ getD u k 0
-tail-at v u j k e = cell (v ++ u) j (length v + k) e ∙ getD-append-add v u k 0
 
 -- cells that stay read as before
 pub still-reads : (l l′ : List ℕ) (c w : ℕ) (v : List ℕ) → Reads l c w v → ((j : ℕ) → j < w → getD l′ (c + j) 0 ≡ getD l (c + j) 0) → Reads l′ c w v

@@ -7,9 +7,10 @@ use lib.ListN.{length, getD}
 use lib.Dec.{eqb}
 use native.Mathlib.Omega.{arith}
 use Rattle.ledger.specs.Tally.{oneIf}
+use Rattle.ledger.proofs.Tallies.{by-same, by-order}
 use Rattle.fates_book.specs.Book.{overStreams}
 use Rattle.fates_register.specs.Register.{counting, cleared, begun}
-use Rattle.fates_register.proofs.Cells.{by-same, by-order, counting-length, counting-other, counting-table}
+use Rattle.fates_register.proofs.Cells.{counting-length, counting-other, counting-table}
 use Rattle.fates_register.proofs.Pages.{Outside, outside-cleared}
 
 -- ---- a sum over the streams

@@ -1,4 +1,4 @@
--- The register of calls: what `fates` keeps of a history while it reads on. A page of 24 numbers for each of the 16 streams:
+-- The register of indications: what `fates` keeps of a history while it reads on. A page of 24 numbers for each of the 16 streams:
 --   0         how often it was opened
 --   1         the indications of its newest opening
 --   2 to 5    how many of them were accepted, denied, withdrawn, dropped

@@ -1,4 +1,4 @@
-// The register of calls: what it keeps stands in specs/.
+// The register of indications: what it keeps stands in specs/.
 ghost use mathlib.Core.Path.{_≡_};
 ghost use Prim.Native.Nat.{_+_, _*_, _<_, _≤_};
 ghost use lib.Dec.{eqb, ltb};

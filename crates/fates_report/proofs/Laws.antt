@@ -10,8 +10,8 @@ use Rattle.ledger.specs.Choice.{_⇒_∣_}
 use Rattle.ledger.proofs.Tallies.{chosen}
 use Rattle.octets.specs.Numbers.{be32At}
 use Rattle.octets.specs.Runs.{paste}
-use Rattle.octets.proofs.Laws.{paste-join}
-use Rattle.text.proofs.Laws.{decimal-most, after, paste-nothing}
+use Rattle.octets.proofs.Runs.{paste-join, paste-nothing, paste-after}
+use Rattle.text.proofs.Laws.{decimal-most}
 use Rattle.paper.specs.declared.Input.{Input}
 use Rattle.paper.specs.RecordsOut.{sizeOut}
 use Rattle.paper.proofs.Sizes.{size-within}
@@ -21,6 +21,7 @@ use Rattle.fates_book.specs.declared.Line.{Line}
 use Rattle.fates_book.specs.declared.Line.the-variants.{Began, Went}
 use Rattle.fates_book.specs.Lines.{asker, endLine, upLine, lineAt, recordsIn, linesIn, openingLines}
 use Rattle.fates_register.specs.Register.{openOn, entered, enteredAll}
+use Rattle.fates_register.proofs.Laws.{entered-append}
 use Rattle.fates_report.specs.Report.{wordCall, wordOf, wordStillOpen, spacedNumber, numbers, indicationLine, openLines, endText, lineText, allText, endTexts, openOnAll}
 
 -- ---- what is still to come, behind e, leads to the same text
@@ -48,10 +49,6 @@ pub none-coming : {out₀ : List ℕ} {at : ℕ} {whole out rest : List ℕ} {e 
     → (e ≡ at + length whole) × (out ≡ paste out₀ at whole)
 none-coming {out₀} {at} {whole} {out} {rest} {e} c q =
     (omega (arith, c .end, ap length q), sym (c .text ∙ ap (paste out e) q ∙ paste-nothing out e))
-
--- an empty text
-pub unwritten : (out : List ℕ) (at : ℕ) → (at ≡ at + length {A = ℕ} []) × (out ≡ paste out at [])
-unwritten out at = none-coming (all-coming out at []) refl
 
 -- ---- numbers
 
@@ -127,8 +124,8 @@ word-most Denied = omega arith
 word-most Withdrawn = omega arith
 word-most Dropped = omega arith
 
-pub call-most : (i c : ℕ) (word l : List ℕ) → length word ≤ 10 → length (indicationLine i c word l) ≤ 100
-call-most i c word l h =
+pub indication-most : (i c : ℕ) (word l : List ℕ) → length word ≤ 10 → length (indicationLine i c word l) ≤ 100
+indication-most i c word l h =
     let a = wordCall ++ spacedNumber i in
     let b = a ++ numbers 1 (i * 24) l in
     let d = b ++ numbers 2 c l in
@@ -150,7 +147,7 @@ Short l y = length (lineText y l) ≤ 100
 went-most : (i n : ℕ) (e : End) (l : List ℕ) → Short l (Went i n e)
 unfolding lineText
 went-most i n e l =
-    chosen (λ (t : List ℕ). length t ≤ 100) _ _ _ (λ q. call-most i _ (wordOf e) l (word-most e)) (λ q. omega arith)
+    chosen (λ (t : List ℕ). length t ≤ 100) _ _ _ (λ q. indication-most i _ (wordOf e) l (word-most e)) (λ q. omega arith)
 
 end-most : (i n : ℕ) (e : End) (l : List ℕ) → Short l (endLine i n e)
 unfolding endLine lineText
@@ -162,9 +159,9 @@ up-most b l =
     chosen (Short l) _ _ _ (λ q. omega arith)
     (λ q. chosen (Short l) _ _ _ (λ q. omega arith) (λ q. chosen (Short l) _ _ _ (λ q. end-most _ _ Withdrawn l) (λ q. omega arith)))
 
-pub record-most : (q : Input) (b l : List ℕ) → length (lineText (lineAt q b) l) ≤ 100
+pub said-most : (q : Input) (b l : List ℕ) → length (lineText (lineAt q b) l) ≤ 100
 unfolding lineAt lineText
-record-most q b l =
+said-most q b l =
     chosen (Short l) _ _ _ (λ e. went-most (asker q) (be32At b 2) Accepted l)
     (λ e. chosen (Short l) _ _ _ (λ e. end-most _ _ _ l) (λ e. chosen (Short l) _ _ _ (λ e. up-most b l) (λ e. omega arith)))
 
@@ -243,18 +240,13 @@ text-append (x ∷ xs) ys l =
     ap (λ (t : List ℕ). lineText x l ++ t) (text-append xs ys (entered x l))
     ∙ sym (append-assoc (lineText x l) (allText xs (entered x l)) (allText ys (enteredAll xs (entered x l))))
 
-entered-append : (xs ys : List Line) (l : List ℕ) → enteredAll (xs ++ ys) l ≡ enteredAll ys (enteredAll xs l)
-unfolding enteredAll
-entered-append [] ys l = refl
-entered-append (x ∷ xs) ys l = entered-append xs ys (entered x l)
-
 -- some lines were told, and others behind them
-pub call-told : {out₁ out₂ l₁ l₂ : List ℕ} {e₁ e₂ : ℕ} (out₀ : List ℕ) (at : ℕ) (l₀ : List ℕ) (xs ys : List Line) → at ≤ length out₀
+pub lines-told : {out₁ out₂ l₁ l₂ : List ℕ} {e₁ e₂ : ℕ} (out₀ : List ℕ) (at : ℕ) (l₀ : List ℕ) (xs ys : List Line) → at ≤ length out₀
     → (e₁ ≡ at + length (allText xs l₀)) × (out₁ ≡ paste out₀ at (allText xs l₀)) → l₁ ≡ enteredAll xs l₀
     → (e₂ ≡ e₁ + length (allText ys l₁)) × (out₂ ≡ paste out₁ e₁ (allText ys l₁)) → l₂ ≡ enteredAll ys l₁
     → ((e₂ ≡ at + length (allText (xs ++ ys) l₀)) × (out₂ ≡ paste out₀ at (allText (xs ++ ys) l₀))) × (l₂ ≡ enteredAll (xs ++ ys) l₀)
-call-told {out₁} {out₂} {l₁} {l₂} {e₁} {e₂} out₀ at l₀ xs ys h a n b m =
-    rw (text-append xs ys l₀, entered-append xs ys l₀, ← n) (after out₀ at (allText xs l₀) (allText ys l₁) h a b, m)
+lines-told {out₁} {out₂} {l₁} {l₂} {e₁} {e₂} out₀ at l₀ xs ys h a n b m =
+    rw (text-append xs ys l₀, entered-append xs ys l₀, ← n) (paste-after out₀ at (allText xs l₀) (allText ys l₁) h a b, m)
 
 -- where a stream was opened, its line alone
 pub opened-text : (t : ℕ) (l : List ℕ) → (t ≡ 0 → ⊥) → allText (openingLines t) l ≡ lineText (Began (t - 1)) l

@@ -1,4 +1,4 @@
-// What fates prints, from the register of calls: see docs/FATES.md. Each writer answers with the place behind.
+// What fates prints, from the register of indications: see docs/FATES.md. Each writer answers with the place behind.
 ghost use mathlib.Core.Path.{_≡_};
 ghost use Prim.Native.Nat.{_+_, _*_, _/_, _%_, _<_, _≤_};
 ghost use lib.ListN.{length, take};

@@ -1,32 +1,25 @@
 -- A stream that goes to a state holds what that state holds (`settled`), so it is sound there if it held as much before and its
 -- open numbers suit the state. ATTACH and BIND alone give it something new.
-use Prim.Native.Nat.{ℕ, _≤_, _<_}
+use Prim.Native.Nat.{ℕ, _≤_}
 use mathlib.Core.Path.{_≡_, refl, sym, ap, _∙_}
-use mathlib.Core.Bool.{Bool, true, false, not, false≢true}
+use mathlib.Core.Bool.{Bool, true, false, false≢true}
 use mathlib.Core.List.{List}
 use lib.ListN.{length}
-use lib.Dec.{eqb, ltb, leb}
+use lib.Dec.{eqb, ltb}
 use native.Mathlib.Omega.{arith}
-use borrow.Author.Tests.{eqb-true, ltb-true, ltb-false, lt-ltb, leb-true, not-true}
-use Rattle.ledger.specs.Choice.{both, either}
+use borrow.Author.Tests.{eqb-true, ltb-true, ltb-false, lt-ltb}
 use Rattle.ledger.specs.Tally.{occ, has}
-use Rattle.ledger.proofs.Tallies.{both-of, occ-length, picked, of-either}
-use Rattle.ledger.proofs.Sums.{among}
+use Rattle.ledger.proofs.Tallies.{occ-length, picked}
 use Rattle.paper.specs.Base.{numberOf, number, isIn, isAmong, boundStates, connectionStates, noStream, inState, attachedIn, settled, Slot, closed}
-use Rattle.paper.specs.Saps.{isSap, isType, asBindAllows}
+use Rattle.paper.specs.Saps.{asBindAllows}
 use Rattle.paper.specs.declared.State.{State}
 use Rattle.paper.specs.declared.Stream.{Stream}
 use Rattle.paper.specs.declared.PpaNumber.{PpaNumber}
+use Rattle.paper.proofs.StateNumbers.{bound-attached, connection-bound}
+use Rattle.paper.proofs.Saps.{allows}
 use Rattle.keeping.specs.Soundness.{Ok}
 
 -- ---- the lists of states
-
--- 0 holds no binding, 9 does, and so do the states of a connection
-pub bound-attached : (n : ℕ) → has n boundStates ≡ true → eqb n 0 ≡ false
-bound-attached n h = not-true _ (among (λ (m : ℕ). not (eqb m 0)) n boundStates refl h)
-
-connection-bound : (n : ℕ) → has n connectionStates ≡ true → has n boundStates ≡ true
-connection-bound n h = among (λ (m : ℕ). has m boundStates) n connectionStates refl h
 
 -- a number of which a test fails that 9 passes is not 9
 pub not-nine : (p : ℕ → Bool) (n : ℕ) → p 9 ≡ true → p n ≡ false → eqb n 9 ≡ false
@@ -37,17 +30,6 @@ not-nine p n h g = go (eqb n 9) refl
     go false e = refl
 
 -- ---- what a bind leaves
-
--- at most 8 are granted, in mode 1; in the other mode nothing is
-pub allows : (s : Stream) → asBindAllows s ≡ true → (s .granted ≤ 8) × (eqb (s .mode) 2 ≡ false → s .mode ≡ 1) × (0 < s .granted → s .mode ≡ 1)
-unfolding asBindAllows
-allows s h = of-either _ _ h
-    (λ e. let a : (eqb (s .mode) 1 ≡ true) × (both (isSap (s .sap)) (leb (s .granted) 8) ≡ true) = both-of _ _ e in
-    let one : s .mode ≡ 1 = eqb-true _ _ (a .0) in
-    (leb-true _ _ (both-of (isSap (s .sap)) _ (a .1) .1), λ _. one, λ _. one))
-    (λ e. let a : (eqb (s .mode) 2 ≡ true) × (both (either (isSap (s .sap)) (isType (s .sap))) (eqb (s .granted) 0) ≡ true) = both-of _ _ e in
-    let none : s .granted ≡ 0 = eqb-true _ _ (both-of (either (isSap (s .sap)) (isType (s .sap))) _ (a .1) .1) in
-    (omega arith, λ n. absurd (false≢true (sym n ∙ a .0)), λ g. absurd (omega arith)))
 
 -- ---- what a state asks of a stream that goes there
 
@@ -93,11 +75,11 @@ module _ (ps : List ℕ) where
   }
 
   -- an open one with these numbers
-  abbrev with-calls : Stream → List ℕ → Slot
-  with-calls s w = record { isOpen = true; stream = s; waiting = w }
+  abbrev openWith : Stream → List ℕ → Slot
+  openWith s w = record { isOpen = true; stream = s; waiting = w }
 
   -- it holds nothing
-  pub ok-none : (w : List ℕ) → ltb 0 (length w) ≡ false → Ok ps (with-calls noStream w)
+  pub ok-none : (w : List ℕ) → ltb 0 (length w) ≡ false → Ok ps (openWith noStream w)
   ok-none w z = record {
     shut = λ e. absurd (false≢true (sym e));
     loose = λ e. refl;
@@ -111,7 +93,7 @@ module _ (ps : List ℕ) where
 
   -- a PPA alone
   pub ok-attached : (q : State) (p : PpaNumber) (w : List ℕ) → eqb (numberOf q) 0 ≡ false → has (numberOf q) boundStates ≡ false → has (p .0) ps ≡ true
-      → ltb 0 (length w) ≡ false → Ok ps (with-calls (attachedIn q p) w)
+      → ltb 0 (length w) ≡ false → Ok ps (openWith (attachedIn q p) w)
   ok-attached q p w n b a z = record {
     shut = λ e. absurd (false≢true (sym e));
     loose = λ e. absurd (false≢true (sym n ∙ e));
@@ -125,7 +107,7 @@ module _ (ps : List ℕ) where
 
   -- a binding, of mode 1 where the state is one of a connection
   pub ok-bound : (s : Stream) (w : List ℕ) → isAmong boundStates s ≡ true → has (s .ppa .0) ps ≡ true → asBindAllows s ≡ true → (isAmong connectionStates s ≡ true → s .mode ≡ 1)
-      → isIn 9 s ≡ ltb 0 (length w) → length w ≤ s .granted → Ok ps (with-calls s w)
+      → isIn 9 s ≡ ltb 0 (length w) → length w ≤ s .granted → Ok ps (openWith s w)
   ok-bound s w b a l j n f = record {
     shut = λ e. absurd (false≢true (sym e));
     loose = λ e. absurd (false≢true (sym (bound-attached (number s) b) ∙ e));
@@ -139,7 +121,7 @@ module _ (ps : List ℕ) where
 
   -- A stream goes to a state, with open numbers that suit it.
   pub ok-settled : (x : Slot) (q : State) (w : List ℕ) → Ok ps x → Fits (x .stream) q → eqb (numberOf q) 9 ≡ ltb 0 (length w) → length w ≤ x .stream .granted
-      → Ok ps (with-calls (settled q (x .stream)) w)
+      → Ok ps (openWith (settled q (x .stream)) w)
   unfolding asBindAllows
   ok-settled x q w o f n l =
       picked P (eqb (numberOf q) 0) noStream _
@@ -149,4 +131,4 @@ module _ (ps : List ℕ) where
       (λ b. ok-attached q (x .stream .ppa) w e b (o .attached (f .attached e)) (sym n ∙ not-nine (λ (m : ℕ). has m boundStates) (numberOf q) refl b)))
     where
       P : Stream → Type 0
-      P y = Ok ps (with-calls y w)
+      P y = Ok ps (openWith y w)

@@ -9,12 +9,14 @@ use lib.Seq.{drop-at}
 use lib.Dec.{leb}
 use native.Mathlib.Omega.{arith}
 use borrow.Author.Tests.{eq-eqb, ne-eqb, le-leb}
-use Rattle.ledger.specs.Tally.{occ, sumOf, allOf}
-use Rattle.ledger.proofs.Tallies.{both-of, to-both, at-all, chosen, one-most}
+use Rattle.ledger.specs.Tally.{occ, allOf}
+use Rattle.ledger.proofs.Tallies.{both-of, to-both, at-all, chosen, one-most, sum-none}
 use Rattle.octets.specs.Numbers.{be32At}
 use Rattle.octets.specs.Runs.{Bytes, part, allZero}
 use Rattle.octets.specs.Blocks.{flat}
-use Rattle.octets.proofs.Laws.{flat-length}
+use Rattle.octets.proofs.Runs.{part-bytes, zero-bytes, zeros-pass}
+use Rattle.octets.proofs.Numbers.{be32At-small}
+use Rattle.octets.proofs.Blocks.{flat-length}
 use Rattle.paper.specs.Base.{Slot, closed, Table, slot, ppaNumbers, noPpa, fresh}
 use Rattle.paper.specs.Correlations.{occurrences}
 use Rattle.paper.specs.Sound.{sound}
@@ -23,7 +25,7 @@ use Rattle.paper.specs.declared.Ppa.{Ppa}
 use Rattle.paper.proofs.StateNumbers.{in-every}
 use Rattle.table_image.specs.Layout.{ppaBase, slotBase, listed, ppaFrom, waitingFrom, slotAt, ppaAt, tableOf, joined, ppaBytes, streamBytes, waitingBytes, slotBytes, headerBytes, imageOf, isState, tidySlot, slotParts, tidyPpas, tidy, soundImage}
 use Rattle.table_image.specs.Shape.{Shaped}
-use Rattle.table_image.proofs.Joined.{part-bytes, each-listed}
+use Rattle.table_image.proofs.Joined.{each-listed}
 use Rattle.table_image.proofs.Shapes.{ppas-length, image-length}
 use Rattle.table_image.proofs.TableBack.{slot-part, table-back}
 use Rattle.table_image.proofs.TidyImage.{tidy-parts, shaped-table}
@@ -32,7 +34,6 @@ use Rattle.keeping.specs.Soundness.{Sound}
 use Rattle.keeping.proofs.Lent.{shaped, image-bytes}
 use Rattle.keeping.proofs.NextNumber.{counter-small}
 use Rattle.keeping.proofs.Kept.{keeps, fresh-sound}
-use Rattle.keeping.proofs.Read.{no-bytes}
 use Rattle.keeping.proofs.Tested.{sound-test, sound-tested}
 
 -- ---- runs of zeros
@@ -42,11 +43,6 @@ drop-past [] b n zero e = let z : n + 0 ≡ n = omega arith in ap (λ (k : ℕ).
 drop-past [] b n (suc m) e = absurd (omega arith)
 drop-past (x ∷ a) b n zero e = absurd (omega arith)
 drop-past (x ∷ a) b n (suc m) e = let z : n + suc m ≡ suc (n + m) = omega arith in ap (λ (k : ℕ). drop k (x ∷ a ++ b)) z ∙ drop-past a b n m (omega arith)
-
-zeros : (k n : ℕ) (r : List ℕ) → k ≤ n → allZero (take k (replicate n 0 ++ r)) ≡ true
-zeros zero n r h = refl
-zeros (suc k) zero r h = absurd (omega arith)
-zeros (suc k) (suc n) r h = zeros k n r (omega arith)
 
 -- ---- the image of a sound table is tidy
 
@@ -58,7 +54,7 @@ slot-tidy x h =
     to-both _ _ (in-every (x .stream .state)) (to-both _ _ (le-leb _ _ h)
     (ap (λ (l : List ℕ). allZero (take (32 - length w * 4) l))
     (drop-past (take 10 (slotBytes x)) (flat w ++ z) (length w * 4) 10 refl ∙ drop-at (flat w) z (length w * 4) (flat-length w) ∙ sym (append-nil z))
-    ∙ zeros (32 - length w * 4) (32 - length (flat w)) [] (omega (arith, flat-length w))))
+    ∙ zeros-pass (32 - length w * 4) (32 - length (flat w)) [] (omega (arith, flat-length w))))
 
 module _ (t : Table) (k : Sound t) where
   memory-tidy : leb (getD (imageOf t) 2 0) 1 ≡ true
@@ -76,7 +72,7 @@ module _ (t : Table) (k : Sound t) where
       (drop-past (take 8 (imageOf t)) ((l ++ z) ++ r) (length (t .ppas) * 10) 8 refl
       ∙ ap (drop (length (t .ppas) * 10)) (append-assoc l z r)
       ∙ drop-at l (z ++ r) (length (t .ppas) * 10) (ppas-length t (shaped t k)))
-      ∙ zeros (80 - length (t .ppas) * 10) (80 - length l) r (omega (arith, ppas-length t (shaped t k))))
+      ∙ zeros-pass (80 - length (t .ppas) * 10) (80 - length l) r (omega (arith, ppas-length t (shaped t k))))
 
   slots-tidy : allOf tidySlot (slotParts (imageOf t)) ≡ true
   slots-tidy = at-all tidySlot (slotBytes closed) (slotParts (imageOf t))
@@ -94,19 +90,12 @@ module _ (t : Table) (k : Sound t) where
 
 -- ---- a sound image holds a sound table
 
-word-small : (c : List ℕ) (j : ℕ) → Bytes c → be32At c j < 2 ^ 32
-word-small c j b = omega (arith, b j, b (j + 1), b (j + 2), b (j + 3))
-
 -- a number that no value is occurs among none of them
 none-listed : (f : ℕ → ℕ) (i n m : ℕ) → ((k : ℕ) → f k < 2 ^ 32) → 2 ^ 32 ≤ m → occ m (listed f i n) ≡ 0
 none-listed f i zero m h b = refl
 none-listed f i (suc n) m h b =
     let z : m ≡ f i → ⊥ = λ e. omega (arith, h i) in
     rw (ne-eqb m (f i) z) (omega (arith, none-listed f (suc i) n m h b))
-
-no-sum : (f : Slot → ℕ) (d : Slot) (l : List Slot) → ((j : ℕ) → f (getD l j d) ≡ 0) → sumOf f l ≡ 0
-no-sum f d [] h = refl
-no-sum f d (x ∷ l) h = omega (arith, h 0, no-sum f d l (λ j. h (suc j)))
 
 map-listed : (g : Ppa → ℕ) (f : ℕ → Ppa) (i n : ℕ) → map g (listed f i n) ≡ listed (λ k. g (f k)) i n
 map-listed g f i zero = refl
@@ -118,27 +107,27 @@ module _ (img : List ℕ) (h : tidy img ≡ true) where
 
   macs-tidy : (j : ℕ) → Bytes (getD (tableOf img .ppas) j noPpa .mac)
   unfolding tableOf ppaAt ppaFrom
-  macs-tidy = each-listed (λ (p : Ppa). Bytes (p .mac)) (ppaAt img) 0 (getD img 3 0) noPpa (λ k b. part-bytes (part img (ppaBase k) 10) 4 6 (part-bytes img (ppaBase k) 10 bytes)) (no-bytes 6)
+  macs-tidy = each-listed (λ (p : Ppa). Bytes (p .mac)) (ppaAt img) 0 (getD img 3 0) noPpa (λ k b. part-bytes (part img (ppaBase k) 10) 4 6 (part-bytes img (ppaBase k) 10 bytes)) (zero-bytes 6)
 
-  calls-small : (n : ℕ) → 2 ^ 32 ≤ n → occurrences (tableOf img) n ≡ 0
+  numbers-small : (n : ℕ) → 2 ^ 32 ≤ n → occurrences (tableOf img) n ≡ 0
   unfolding occurrences tableOf slotAt waitingFrom
-  calls-small n b = no-sum (λ (x : Slot). occ n (x .waiting)) closed (listed (slotAt img) 0 16)
+  numbers-small n b = sum-none (λ (x : Slot). occ n (x .waiting)) closed (listed (slotAt img) 0 16)
       (each-listed (λ (x : Slot). occ n (x .waiting) ≡ 0) (slotAt img) 0 16 closed
       (λ i d. let c : List ℕ = part img (slotBase i) 42 in
-      none-listed (λ k. be32At c (k * 4 + 10)) 0 (getD c 9 0) n (λ k. word-small c (k * 4 + 10) (part-bytes img (slotBase i) 42 bytes)) b)
+      none-listed (λ k. be32At c (k * 4 + 10)) 0 (getD c 9 0) n (λ k. be32At-small c (k * 4 + 10) (part-bytes img (slotBase i) 42 bytes)) b)
       refl)
 
   ppas-small : (p : ℕ) → 2 ^ 32 ≤ p → occ p (ppaNumbers (tableOf img)) ≡ 0
   unfolding tableOf ppaAt ppaFrom
   ppas-small p b = ap (occ p) (map-listed (λ (p : Ppa). p .number .0) (ppaAt img) 0 (getD img 3 0))
-      ∙ none-listed (λ k. be32At (part img (ppaBase k) 10) 0) 0 (getD img 3 0) p (λ k. word-small (part img (ppaBase k) 10) 0 (part-bytes img (ppaBase k) 10 bytes)) b
+      ∙ none-listed (λ k. be32At (part img (ppaBase k) 10) 0) 0 (getD img 3 0) p (λ k. be32At-small (part img (ppaBase k) 10) 0 (part-bytes img (ppaBase k) 10 bytes)) b
 
 pub lent-sound : (img : List ℕ) → soundImage img ≡ true → Sound (tableOf img)
 unfolding soundImage
 lent-sound img s =
     let h : (tidy img ≡ true) × (sound (tableOf img) ≡ true) = both-of _ _ s in
     let q : Shaped (tableOf img) = shaped-table img (h .0) in
-    sound-tested (tableOf img) (q .sixteen) (counter-small img (h .0)) (λ j. (q .macs j, macs-tidy img (h .0) j)) (calls-small img (h .0)) (ppas-small img (h .0)) (h .1)
+    sound-tested (tableOf img) (q .sixteen) (counter-small img (h .0)) (λ j. (q .macs j, macs-tidy img (h .0) j)) (numbers-small img (h .0)) (ppas-small img (h .0)) (h .1)
 
 -- A fresh table as it is lent is sound.
 pub fresh-image : soundImage (imageOf fresh) ≡ true

@@ -4,15 +4,16 @@ use native.Mathlib.Omega.{arith}
 use mathlib.Core.Path.{_≡_, refl, ap}
 use mathlib.Core.Bool.{Bool, true, not}
 use mathlib.Core.List.{List, [], _∷_}
-use lib.ListN.{length, getD, replicate}
+use lib.ListN.{length}
 use borrow.Author.Tests.{not-true}
 use Rattle.octets.specs.Runs.{Bytes}
+use Rattle.octets.proofs.Runs.{part-length, part-bytes, zero-bytes}
 use Rattle.ledger.specs.Tally.{has, allOf, firstOf, free, nextFrom}
 use Rattle.ledger.proofs.Tallies.{both-of, to-both, picked, first-holds}
 use Rattle.fates_book.specs.declared.End.the-variants.{Denied, Withdrawn}
 use Rattle.fates_book.specs.declared.Line.the-variants.{Nothing}
 use Rattle.ledger.proofs.Sums.{of-asks}
-use Rattle.table_image.proofs.Joined.{part-bytes, part-length}
+use Rattle.ledger.proofs.Lists.{replicate-at}
 use Rattle.paper.specs.Base.{number, Slot, closed, Table, fresh, slot, stream, waiting, lowestFree, tokenOf, ppaNumbers, knows, withPpa}
 use Rattle.paper.specs.Saps.{listens}
 use Rattle.paper.specs.RecordsIn.{inputOf}
@@ -33,16 +34,17 @@ use Rattle.paper.specs.declared.Found.the-variants.{At}
 use Rattle.paper.proofs.RowFound.{row-from}
 use Rattle.paper.proofs.Fair.{Fair, informs, tellsToken, attaches, detaches, binds, unbinds, connects, acceptsHere, acceptsOn, denies, disconnects, resets, answersReset}
 use Rattle.paper.proofs.Walk.{done, failing, serving, Brings, arriving, accepted, gone, withdrawn, reset, confirmed, Way, refusing, adding, opening, closing, answering, bringing, step-walk}
+use Rattle.paper.proofs.StateNumbers.{bound-attached}
 use Rattle.keeping.specs.Soundness.{Sound}
 use Rattle.keeping.specs.RowsFit.{toState, lastState, mayTake, mayLose, enders, fitsStaying, fitsMoving, fitsDisconnecting, fitsAttaching, fitsBinding, fitsTaking, fitsLosing, RowsFit}
-use Rattle.keeping.proofs.Changes.{bound-attached, opened, in-nine, ok-closed}
+use Rattle.keeping.proofs.Changes.{opened, in-nine, ok-closed}
 use Rattle.keeping.proofs.Leaves.{open-sound, ppa-sound}
 use Rattle.keeping.proofs.Sights.{shows-still, shows-opens}
 use Rattle.keeping.proofs.Rows.{state-rows-fit, rowOf, passes}
 use Rattle.keeping.proofs.Effects.{Good, onward-good, unchanged-good, attach-good, bind-good}
 use Rattle.keeping.proofs.Listeners.{takes-good, less-good, accept-on, accept-here}
 use Rattle.keeping.proofs.Closes.{open-nonzero, close-good}
-use Rattle.keeping.proofs.Read.{no-bytes, Whole, read-whole}
+use Rattle.keeping.proofs.Read.{Whole, read-whole}
 use Rattle.keeping.proofs.Lent.{shaped}
 use Rattle.keeping.proofs.Tested.{sound-test}
 use Rattle.keeping.proofs.NextNumber.{next-free}
@@ -124,21 +126,16 @@ keeps t k r b room = good stateRows state-rows-fit t k r b room .kept
 
 -- ---- a fresh table
 
-pub fresh-at : (n i : ℕ) → getD (replicate n closed) i closed ≡ closed
-fresh-at zero i = refl
-fresh-at (suc n) zero = refl
-fresh-at (suc n) (suc i) = fresh-at n i
-
 pub fresh-sound : Sound fresh
 unfolding occurrences listens
 fresh-sound = record {
   sixteen = refl;
   small = omega arith;
-  each = λ i. rw (fresh-at 16 i) (ok-closed []);
+  each = λ i. rw (replicate-at 16 closed i) (ok-closed []);
   once = λ n. omega arith;
   alone = λ p q. omega arith;
   differ = λ p. omega arith;
   most = omega arith;
-  macs = λ j. (refl, no-bytes 6);
-  recalls = λ e i. rw (fresh-at 16 i);
+  macs = λ j. (refl, zero-bytes 6);
+  recalls = λ e i. rw (replicate-at 16 closed i);
 }

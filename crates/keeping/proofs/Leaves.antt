@@ -13,7 +13,7 @@ use Rattle.ledger.specs.Choice.{pick}
 use Rattle.ledger.specs.Tally.{oneIf, occ, has, free}
 use Rattle.ledger.proofs.Tallies.{both-of, picked}
 use Rattle.ledger.proofs.Sums.{occ-append, sum-put}
-use Rattle.table_image.proofs.Joined.{each-set, each-more}
+use Rattle.ledger.proofs.Lists.{each-set, each-more}
 use Rattle.paper.specs.Base.{numberOf, isIn, boundStates, noStream, inState, attachedIn, settled, Slot, closed, justOpened, Table, slot, stream, waiting, ppaNumbers, noPpa, withSlot, withNumbers, withStream, withCounter, withPpa, remembering}
 use Rattle.paper.specs.Saps.{listens}
 use Rattle.paper.specs.Correlations.{occurrences}
@@ -72,19 +72,19 @@ open-sound t k i =
 
 -- ---- an open stream and its numbers replaced
 
-calls-sound : (t : Table) → Sound t → (i : ℕ) → slot t i .isOpen ≡ true → (s : Stream) (w : List ℕ) → Ok (ppaNumbers t) (record { isOpen = true; stream = s; waiting = w })
+numbers-sound : (t : Table) → Sound t → (i : ℕ) → slot t i .isOpen ≡ true → (s : Stream) (w : List ℕ) → Ok (ppaNumbers t) (record { isOpen = true; stream = s; waiting = w })
     → ((n : ℕ) → occ n w + occurrences t n ≤ cap n + occ n (waiting t i))
     → ((p : PpaNumber) (q : ℕ) → hearing p q s + listenersOf t p q ≤ 1 + hearing p q (stream t i))
     → Sound (withNumbers t i s w)
 unfolding withNumbers
-calls-sound t k i u s w o h l = rw u (put-sound t k i (record { isOpen = true; stream = s; waiting = w }) o h l (λ e. absurd (false≢true (sym (k .recalls e i) ∙ u))))
+numbers-sound t k i u s w o h l = rw u (put-sound t k i (record { isOpen = true; stream = s; waiting = w }) o h l (λ e. absurd (false≢true (sym (k .recalls e i) ∙ u))))
 
 -- a stream alone
 pub stream-sound : (t : Table) → Sound t → (i : ℕ) → slot t i .isOpen ≡ true → (s : Stream) → Ok (ppaNumbers t) (record { isOpen = true; stream = s; waiting = waiting t i })
     → ((p : PpaNumber) (q : ℕ) → hearing p q s + listenersOf t p q ≤ 1 + hearing p q (stream t i))
     → Sound (withStream t i s)
 unfolding withStream
-stream-sound t k i u s o l = calls-sound t k i u s (waiting t i) o (λ n. omega (arith, k .once n)) l
+stream-sound t k i u s o l = numbers-sound t k i u s (waiting t i) o (λ n. omega (arith, k .once n)) l
 
 -- one that is granted nothing listens for nothing
 pub deaf : (t : Table) → Sound t → (i : ℕ) (s : Stream) → s .granted ≡ 0 → (p : PpaNumber) (sap : ℕ) → hearing p sap s + listenersOf t p sap ≤ 1 + hearing p sap (stream t i)
@@ -96,7 +96,7 @@ deaf t k i s z p sap = rw z (omega (arith, k .alone p sap))
 -- with other numbers
 pub standing-sound : (t : Table) → Sound t → (i : ℕ) (q : State) (w : List ℕ) → slot t i .isOpen ≡ true → Fits (stream t i) q → eqb (numberOf q) 9 ≡ ltb 0 (length w)
     → length w ≤ stream t i .granted → ((n : ℕ) → occ n w + occurrences t n ≤ cap n + occ n (waiting t i)) → Sound (withNumbers t i (settled q (stream t i)) w)
-standing-sound t k i q w u f n l h = calls-sound t k i u (settled q (stream t i)) w (ok-settled (ppaNumbers t) (slot t i) q w (k .each i) f n l) h no-more
+standing-sound t k i q w u f n l h = numbers-sound t k i u (settled q (stream t i)) w (ok-settled (ppaNumbers t) (slot t i) q w (k .each i) f n l) h no-more
   where
     -- what counts for listening is no state
     same : (p : PpaNumber) (sap : ℕ) → hearing p sap (inState q (stream t i)) + listenersOf t p sap ≤ 1 + hearing p sap (stream t i)

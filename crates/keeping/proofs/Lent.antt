@@ -4,23 +4,21 @@ use mathlib.Core.Path.{_≡_, refl, ap}
 use mathlib.Core.Bool.{Bool, true, false, not}
 use mathlib.Core.List.{List, [], _∷_, _++_, map}
 use lib.ListN.{length, getD, replicate}
-use lib.Dec.{eqb, ltb, leb}
+use lib.Dec.{ltb}
 use native.Mathlib.Omega.{arith}
 use native.Mathlib.Nat.{pow-succ'}
-use borrow.Author.Tests.{eqb-true, ltb-true, lt-ltb, leb-true, eq-eqb}
-use Rattle.ledger.specs.Choice.{both, either}
+use borrow.Author.Tests.{ltb-true, lt-ltb, eq-eqb}
 use Rattle.ledger.specs.Tally.{oneIf, occ}
-use Rattle.ledger.proofs.Tallies.{both-of, to-both, at-all, of-either}
+use Rattle.ledger.proofs.Tallies.{both-of, to-both, at-all}
 use Rattle.ledger.proofs.Sums.{sum-at}
 use Rattle.octets.specs.Numbers.{be16, be32}
 use Rattle.octets.specs.Blocks.{flat}
 use Rattle.paper.specs.Base.{numberOf, isIn, isAmong, boundStates, Slot, closed, Table, slot, stream, waiting, ppaNumbers, noPpa}
 use Rattle.paper.specs.Correlations.{occurrences}
-use Rattle.paper.specs.Saps.{isSap, isType, asBindAllows}
-use Rattle.paper.specs.declared.State.{State}
 use Rattle.paper.specs.declared.Stream.{Stream}
 use Rattle.paper.specs.declared.Ppa.{Ppa}
-use Rattle.paper.proofs.StateNumbers.{each-number}
+use Rattle.paper.proofs.StateNumbers.{state-byte}
+use Rattle.paper.proofs.Saps.{bind-small}
 use Rattle.table_image.specs.Layout.{padTo, joined, maskOf, ppaBytes, streamBytes, waitingBytes, slotBytes, headerBytes, imageOf, areBytes}
 use Rattle.table_image.specs.Shape.{Shaped}
 use Rattle.keeping.specs.Soundness.{Sound}
@@ -69,24 +67,6 @@ mask-below (x ∷ l) = go (not (x .isOpen)) (mask-below l)
     go false h = omega (arith, pow-succ' 2 (length l))
 
 -- ---- a stream
-state-byte : (q : State) → numberOf q < 256
-state-byte = each-number (λ n. n < 256) (omega arith) (omega arith) (omega arith) (omega arith) (omega arith) (omega arith) (omega arith) (omega arith)
-
-sap-small : (n : ℕ) → isSap n ≡ true → n < 65536
-unfolding isSap
-sap-small n h = omega (arith, ltb-true n 256 (both-of (ltb n 256) _ h .0))
-
-type-small : (n : ℕ) → isType n ≡ true → n < 65536
-unfolding isType
-type-small n h = let c : (leb n 0xffff ≡ true) × _ = both-of (leb n 0xffff) _ (both-of (leb 0x600 n) _ h .1) in omega (arith, leb-true n 0xffff (c .0))
-
-bind-small : (s : Stream) → asBindAllows s ≡ true → (s .mode < 256) × (s .sap < 65536)
-unfolding asBindAllows
-bind-small s h = of-either _ _ h
-    (λ e. let a : (eqb (s .mode) 1 ≡ true) × (both (isSap (s .sap)) (leb (s .granted) 8) ≡ true) = both-of _ _ e in
-    (omega (arith, eqb-true (s .mode) 1 (a .0)), sap-small (s .sap) (both-of (isSap (s .sap)) _ (a .1) .0)))
-    (λ e. let a : (eqb (s .mode) 2 ≡ true) × (both (either (isSap (s .sap)) (isType (s .sap))) (eqb (s .granted) 0) ≡ true) = both-of _ _ e in
-    (omega (arith, eqb-true (s .mode) 2 (a .0)), of-either _ _ (both-of (either (isSap (s .sap)) (isType (s .sap))) _ (a .1) .0) (sap-small (s .sap)) (type-small (s .sap))))
 
 number-small : (l : List Ppa) → ((p : ℕ) → 0 < occ p (map (λ (x : Ppa). x .number .0) l) → p < 2 ^ 32) → (j : ℕ) → getD l j noPpa .number .0 < 2 ^ 32
 number-small [] h j = omega arith

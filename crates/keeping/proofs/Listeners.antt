@@ -30,17 +30,15 @@ use Rattle.paper.specs.declared.Saying.{Saying}
 use Rattle.paper.specs.declared.Input.{Input}
 use Rattle.paper.proofs.Fair.{MayCarry}
 use Rattle.paper.proofs.Walk.{done}
+use Rattle.paper.proofs.StateNumbers.{bound-attached, settled-bound}
+use Rattle.paper.proofs.Saps.{allows}
 use Rattle.keeping.specs.Soundness.{Sound}
 use Rattle.keeping.specs.RowsFit.{toState, lastState, mayTake, mayLose}
-use Rattle.keeping.proofs.Changes.{bound-attached, allows, Fits, eight, in-nine}
+use Rattle.keeping.proofs.Changes.{Fits, eight, in-nine}
 use Rattle.keeping.proofs.Leaves.{standing-sound, settle-sound, more-sound}
 use Rattle.keeping.proofs.Sights.{Shows, shows-stream, shows-less, shows-more}
 use Rattle.keeping.proofs.Lines.{effectLines}
 use Rattle.keeping.proofs.Effects.{Good, same-grant, shows-lines}
-
--- with all that it holds it goes to a state that holds a binding
-settled-bound : (s : Stream) (q : State) → has (numberOf q) boundStates ≡ true → settled q s ≡ inState q s
-settled-bound s q h = rw (bound-attached (numberOf q) h, h)
 
 module _ (t : Table) (k : Sound t) (i : ℕ) (u : slot t i .isOpen ≡ true) (x : StateRow) (n : Correlation) where
   -- I: one more number, that is free

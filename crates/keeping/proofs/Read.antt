@@ -1,9 +1,9 @@
 -- What a record of bytes holds is bytes; and one that adds a PPA was read whole, so that it has a MAC of 6 bytes and a number of 4.
-use Prim.Native.Nat.{ℕ, zero, suc, _≤_, _<_, _^_}
+use Prim.Native.Nat.{ℕ, _≤_, _<_, _^_}
 use native.Mathlib.Omega.{arith}
 use mathlib.Core.Path.{_≡_}
 use mathlib.Core.List.{List}
-use lib.ListN.{length, getD, replicate}
+use lib.ListN.{length, getD}
 use borrow.Author.Tests.{eqb-false}
 use Rattle.ledger.proofs.Tallies.{chosen}
 use Rattle.octets.specs.Numbers.{be32At}
@@ -15,11 +15,6 @@ use Rattle.paper.specs.declared.PpaNumber.{PpaNumber}
 use Rattle.paper.specs.declared.Input.{Input}
 use Rattle.paper.specs.declared.Input.the-variants as input
 use Rattle.paper.proofs.Records.{whole}
-
-pub no-bytes : (n : ℕ) → Bytes (replicate n 0)
-no-bytes zero j = omega arith
-no-bytes (suc n) zero = omega arith
-no-bytes (suc n) (suc j) = no-bytes n j
 
 abbrev pub Whole : List ℕ → Input → Type 0
 Whole r q = (p : PpaNumber) → q ≡ input.AddPpa p → (11 ≤ length r) × (p .0 < 2 ^ 32)

@@ -2,27 +2,26 @@
 use Prim.Native.Nat.{ℕ, _-_, _≤_, _<_, _^_, min}
 use mathlib.Core.Path.{_≡_, refl, sym, ap, _∙_}
 use mathlib.Core.Bool.{Bool, true, false, not, false≢true}
-use mathlib.Core.List.{List, []}
+use mathlib.Core.List.{List}
 use lib.ListN.{length, getD}
 use lib.Dec.{eqb, ltb, leb}
 use native.Mathlib.Omega.{arith}
 use borrow.Author.Tests.{eqb-true, eq-eqb, ltb-true, ltb-false, lt-ltb, leb-true, le-leb, not-true}
 use Rattle.octets.specs.Runs.{Bytes}
-use Rattle.ledger.specs.Choice.{pick, both, either}
+use Rattle.ledger.specs.Choice.{pick, either}
 use Rattle.ledger.specs.Tally.{oneIf, occ, has, allOf}
-use Rattle.ledger.proofs.Tallies.{both-of, to-both, picked, all-at, at-all, empty, nth}
+use Rattle.ledger.proofs.Tallies.{both-of, to-both, picked, all-at, at-all, nth}
 use Rattle.ledger.proofs.Sums.{sum-at, sum-some, all-occ, occ-all, all-sum, of-asks, to-asks}
 use Rattle.paper.specs.Base.{isIn, isAmong, boundStates, connectionStates, Slot, closed, Table, slot, stream, waiting, ppaNumbers, noPpa}
 use Rattle.paper.specs.Saps.{asBindAllows, listens}
 use Rattle.paper.specs.Correlations.{occurrences}
 use Rattle.paper.specs.Sound.{every, sameAnswer, unbound, holdsNothing, openTests, soundSlot, isSingle, listenersOf, isAlone, soundTests, sound}
-use Rattle.paper.specs.declared.State.{State}
-use Rattle.paper.specs.declared.State.the-variants.{Unattached}
 use Rattle.paper.specs.declared.Stream.{Stream}
 use Rattle.paper.specs.declared.PpaNumber.{PpaNumber}
 use Rattle.keeping.specs.Soundness.{cap, Ok, Sound}
 use Rattle.keeping.proofs.Changes.{ok-closed}
-use Rattle.paper.proofs.StateNumbers.{in-zero}
+use Rattle.paper.proofs.Saps.{listens-is}
+use Rattle.paper.proofs.SoundTests.{no-bind, closed-is}
 
 to-same : (a b : Bool) → a ≡ b → sameAnswer a b ≡ true
 to-same true b e = sym e
@@ -65,12 +64,6 @@ sound-test t k =
     recalled false e = at-all (λ (x : Slot). not (x .isOpen)) closed (t .slots) (λ i. ap not (k .recalls e i))
 
 -- ---- to the facts
-zeros : (s : Stream) → every (unbound s) ≡ true → (s .mode ≡ 0) × (s .sap ≡ 0) × (s .granted ≡ 0)
-zeros s h = (eqb-true _ _ (nth (unbound s) h 0), eqb-true _ _ (nth (unbound s) h 1), eqb-true _ _ (nth (unbound s) h 2))
-
-all-zero : (b : Bool) (q : State) (m s p g : ℕ) (w : List ℕ) → b ≡ false → q ≡ Unattached → m ≡ 0 → s ≡ 0 → p ≡ 0 → g ≡ 0 → w ≡ []
-    → _≡_ {A = Slot} (record { isOpen = b; stream = record { state = q; mode = m; sap = s; ppa = record { 0 = p }; granted = g }; waiting = w }) closed
-all-zero b q m s p g w eb eq em es ep eg ew = rw (eb, eq, em, es, ep, eg, ew)
 
 slot-tested : (ps : List ℕ) (x : Slot) → soundSlot ps x ≡ true → Ok ps x
 unfolding soundSlot holdsNothing
@@ -92,31 +85,13 @@ slot-tested ps x h = go (x .isOpen) refl h
           shut = λ f. absurd (false≢true (sym f ∙ e));
           loose = λ z. eqb-true _ _ (a .0 z);
           attached = a .1;
-          unbound = λ z. zeros s (b .1 z);
+          unbound = λ z. no-bind s (b .1 z);
           bound = b .0;
           connected = λ z. eqb-true _ _ (of-asks (isAmong connectionStates s) (eqb (s .mode) 1) (nth (openTests ps x) h 2) z);
           nine = of-same _ _ (nth (openTests ps x) h 3);
           few = leb-true _ _ (nth (openTests ps x) h 4);
         }
-    go false e h =
-        let s : Stream = x .stream in
-        let a : (isIn 0 s ≡ true) × (both (eqb (s .ppa .0) 0) (both (every (unbound s)) (eqb (length (x .waiting)) 0)) ≡ true) = both-of _ _ h in
-        let b : (eqb (s .ppa .0) 0 ≡ true) × (both (every (unbound s)) (eqb (length (x .waiting)) 0) ≡ true) = both-of _ _ (a .1) in
-        let c : (every (unbound s) ≡ true) × (eqb (length (x .waiting)) 0 ≡ true) = both-of _ _ (b .1) in
-        let z : (s .mode ≡ 0) × (s .sap ≡ 0) × (s .granted ≡ 0) = zeros s (c .0) in
-        none (all-zero (x .isOpen) (s .state) (s .mode) (s .sap) (s .ppa .0) (s .granted) (x .waiting) e (in-zero (s .state) (eqb-true _ _ (a .0)))
-        (z .0) (z .1) (eqb-true _ _ (b .0)) (z .2) (empty (x .waiting) (eqb-true _ _ (c .1))))
-
-listens-is : (p : PpaNumber) (q : ℕ) (s : Stream) → 0 < oneIf (listens p q s) → (0 < s .granted) × (s .ppa .0 ≡ p .0) × (s .sap ≡ q)
-unfolding listens
-listens-is p q s h = go (ltb 0 (s .granted)) refl (eqb (s .ppa .0) (p .0)) refl (eqb (s .sap) q) refl h
-  where
-    go : (a : Bool) → ltb 0 (s .granted) ≡ a → (b : Bool) → eqb (s .ppa .0) (p .0) ≡ b → (c : Bool) → eqb (s .sap) q ≡ c → 0 < oneIf (both a (both b c))
-        → (0 < s .granted) × (s .ppa .0 ≡ p .0) × (s .sap ≡ q)
-    go true d true e true f h = (ltb-true _ _ d, eqb-true _ _ e, eqb-true _ _ f)
-    go true d true e false f h = absurd (omega arith)
-    go true d false e c f h = absurd (omega arith)
-    go false d b e c f h = absurd (omega arith)
+    go false e h = none (closed-is x h e)
 
 -- with what the test takes for granted: sixteen streams, a counter of four bytes, MACs of six
 pub sound-tested : (t : Table) → length (t .slots) ≡ 16 → t .counter < 2 ^ 32 → ((j : ℕ) → (length (getD (t .ppas) j noPpa .mac) ≡ 6) × Bytes (getD (t .ppas) j noPpa .mac))

@@ -4,12 +4,12 @@ use native.Mathlib.Omega.{arith}
 use native.Mathlib.Nat.{zero-add}
 use mathlib.Core.Path.{_≡_, refl, sym, ap, ap₂, _∙_}
 use mathlib.Core.Bool.{Bool, true, false}
-use mathlib.Core.List.{List, [], _∷_, map}
-use lib.ListN.{length, getD}
+use mathlib.Core.List.{List, [], _∷_, map, _++_}
+use lib.ListN.{length, getD, take, drop}
 use lib.Dec.{eqb, ltb, leb·suc-suc}
-use borrow.Author.Tests.{eqb-true, eqb-false, eq-eqb, ne-eqb, lt-ltb}
+use borrow.Author.Tests.{eqb-true, eqb-false, eq-eqb, ne-eqb, lt-ltb, le-ltb, ltb-false}
 use Rattle.ledger.specs.Choice.{pick}
-use Rattle.ledger.specs.Tally.{oneIf, occ, has, firstOf}
+use Rattle.ledger.specs.Tally.{oneIf, occ, has, firstOf, without}
 use Rattle.ledger.proofs.Tallies.{picked}
 
 module _ {A : Type 0} (f : A → Bool) (d : A) where
@@ -55,3 +55,28 @@ first-map f n (x ∷ l) = ap₂ (λ (b : Bool) (k : ℕ). pick b 0 (suc k)) (go 
     go : (b : Bool) → eqb n (f x) ≡ b → eqb n (f x) ≡ eqb (f x) n
     go true e = e ∙ sym (eq-eqb (f x) n (sym (eqb-true n (f x) e)))
     go false e = e ∙ sym (ne-eqb (f x) n (λ q. eqb-false n (f x) e (sym q)))
+
+-- ---- a number taken out
+
+module _ (n : ℕ) where
+  -- where it is not there, none is taken out
+  pub without-none : (l : List ℕ) → has n l ≡ false → without n l ≡ l
+  without-none [] h = refl
+  without-none (x ∷ l) h = go (eqb n x) h (without-none l)
+    where
+      go : (b : Bool) → ltb 0 (oneIf b + occ n l) ≡ false → (has n l ≡ false → without n l ≡ l) → pick b l (x ∷ without n l) ≡ x ∷ l
+      go true h r = absurd (omega (arith, ltb-false 0 (1 + occ n l) h))
+      go false h r = ap (λ (m : List ℕ). x ∷ m) (r (le-ltb 0 (occ n l) (omega (arith, ltb-false 0 (0 + occ n l) h))))
+
+  -- else the one at its first place is
+  pub without-first : (l : List ℕ) → firstOf (eqb n) l < length l
+      → without n l ≡ take (firstOf (eqb n) l) l ++ drop (suc (firstOf (eqb n) l)) l
+  without-first [] h = absurd (omega arith)
+  without-first (x ∷ l) h = go (eqb n x) h (without-first l)
+    where
+      go : (b : Bool) → pick b 0 (suc (firstOf (eqb n) l)) < suc (length l)
+          → (firstOf (eqb n) l < length l → without n l ≡ take (firstOf (eqb n) l) l ++ drop (suc (firstOf (eqb n) l)) l)
+          → pick b l (x ∷ without n l)
+          ≡ take (pick b 0 (suc (firstOf (eqb n) l))) (x ∷ l) ++ drop (suc (pick b 0 (suc (firstOf (eqb n) l)))) (x ∷ l)
+      go true h r = refl
+      go false h r = ap (λ (m : List ℕ). x ∷ m) (r (omega arith))

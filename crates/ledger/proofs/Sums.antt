@@ -10,7 +10,7 @@ use native.Mathlib.Omega.{arith}
 use borrow.Author.Tests.{eqb-true, eqb-false, eq-eqb, ltb-true, ltb-false}
 use Rattle.ledger.specs.Choice.{pick}
 use Rattle.ledger.specs.Tally.{oneIf, occ, has, without, sumOf, allOf}
-use Rattle.ledger.proofs.Tallies.{totalOf, both-of, to-both, picked}
+use Rattle.ledger.proofs.Tallies.{occOver, both-of, to-both, picked}
 
 -- ---- tests
 
@@ -92,11 +92,11 @@ pub occ-all : (p : ℕ → Bool) (l : List ℕ) → ((n : ℕ) → 0 < occ n l �
 occ-all p [] h = refl
 occ-all p (x ∷ l) h = to-both _ _ (h x (rw (eq-eqb x x refl) (omega arith))) (occ-all p l (λ n m. h n (omega arith)))
 
-pub all-sum : {A : Type 0} (f : A → List ℕ) (p : ℕ → Bool) (n : ℕ) (l : List A) → allOf (λ x. allOf p (f x)) l ≡ true → 0 < totalOf f l n → p n ≡ true
+pub all-sum : {A : Type 0} (f : A → List ℕ) (p : ℕ → Bool) (n : ℕ) (l : List A) → allOf (λ x. allOf p (f x)) l ≡ true → 0 < occOver f l n → p n ≡ true
 all-sum f p n [] h m = absurd (omega arith)
 all-sum f p n (x ∷ l) h m = go (ltb 0 (occ n (f x))) refl (all-sum f p n l (both-of (allOf p (f x)) (allOf (λ x. allOf p (f x)) l) h .1))
   where
-    go : (b : Bool) → ltb 0 (occ n (f x)) ≡ b → (0 < totalOf f l n → p n ≡ true) → p n ≡ true
+    go : (b : Bool) → ltb 0 (occ n (f x)) ≡ b → (0 < occOver f l n → p n ≡ true) → p n ≡ true
     go true e r = all-occ p n (f x) (both-of (allOf p (f x)) (allOf (λ x. allOf p (f x)) l) h .0) (ltb-true _ _ e)
     go false e r = r (omega (arith, ltb-false 0 (occ n (f x)) e))
 

@@ -1,2 +1,4 @@
 -- Laws that the proofs of this crate and of its callers cite.
-pub mod Laws
+pub mod Numbers
+pub mod Runs
+pub mod Blocks

@@ -4,8 +4,11 @@ pub mod SoundClauses
 pub mod RefusalOrder
 pub mod Records
 pub mod Sizes
+pub mod RecordsOut
 pub mod Tails
 pub mod StateNumbers
+pub mod Saps
+pub mod SoundTests
 pub mod StateTable
 pub mod RowFound
 pub mod Fair

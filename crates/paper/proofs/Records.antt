@@ -62,10 +62,28 @@ read-long r =
 pub adds-long : (r : List ℕ) (p : PpaNumber) → inputOf r ≡ input.AddPpa p → 11 ≤ length r
 adds-long r p e = subst (λ (q : Input). leastSize q ≤ length r) e (read-long r)
 
-pub calls-long : (r : List ℕ) (p : PpaNumber) (sap : ℕ) → inputOf r ≡ input.CallArrives p sap → 19 ≤ length r
-calls-long r p sap e = subst (λ (q : Input). leastSize q ≤ length r) e (read-long r)
+pub arrives-long : (r : List ℕ) (p : PpaNumber) (sap : ℕ) → inputOf r ≡ input.CallArrives p sap → 19 ≤ length r
+arrives-long r p sap e = subst (λ (q : Input). leastSize q ≤ length r) e (read-long r)
 
 -- a record lies within the bytes that it starts
 pub record-within : (r : List ℕ) → recordSize r ≤ length r
 unfolding recordSize
 record-within r = chosen (λ (n : ℕ). n ≤ length r) _ _ _ (λ e. leb-true _ _ e) (λ e. omega arith)
+
+-- no record in is longer than a message
+size-most : (k : Kind) → sizeOf k ≤ 99
+size-most kind.AddPpa = omega arith
+size-most kind.Open = omega arith
+size-most kind.Close = omega arith
+size-most kind.Message = omega arith
+size-most kind.CallArrives = omega arith
+size-most kind.PeerAccepted = omega arith
+size-most kind.PeerGone = omega arith
+size-most kind.CallWithdrawn = omega arith
+size-most kind.PeerReset = omega arith
+size-most kind.ResetConfirmed = omega arith
+size-most kind.Unknown = omega arith
+
+pub record-most : (r : List ℕ) → recordSize r ≤ 99
+unfolding recordSize
+record-most r = chosen (λ (n : ℕ). n ≤ 99) _ _ _ (λ e. size-most (kindOf (getD r 0 0))) (λ e. omega arith)

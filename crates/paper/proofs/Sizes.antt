@@ -4,12 +4,11 @@ use Prim.Native.Nat.{ℕ, _+_, _*_, _≤_}
 use native.Mathlib.Omega.{arith}
 use mathlib.Core.Path.{_≡_, refl}
 use mathlib.Core.List.{List}
-use lib.ListN.{length, length-append}
+use lib.ListN.{length}
 use Rattle.ledger.proofs.Tallies.{picked, chosen}
-use Rattle.octets.specs.Blocks.{flat}
-use Rattle.octets.proofs.Laws.{flat-length}
+use Rattle.octets.proofs.Blocks.{content-length, block-length}
 use Rattle.paper.specs.Base.{isAmong, toldStates}
-use Rattle.paper.specs.RecordsOut.{sizeOut}
+use Rattle.paper.specs.RecordsOut.{sizeOut, up, bytesOf}
 use Rattle.paper.specs.Replies.{infoOf, fieldsOf, contentOf, replySize, addressBytes}
 use Rattle.paper.specs.declared.Stream.{Stream}
 use Rattle.paper.specs.declared.Reply.{Reply}
@@ -49,7 +48,7 @@ fields-size ResetCon = refl
 -- L is the size and the bytes beyond it: what stands behind the fields, less the addresses that the size counts
 pub reply-size : (r : Reply) (tail : List ℕ) → length (contentOf r tail) + addressBytes r ≡ replySize r + length tail
 unfolding contentOf
-reply-size r tail = omega (arith, length-append (flat (fieldsOf r)) tail, flat-length (fieldsOf r), fields-size r)
+reply-size r tail = omega (arith, content-length (fieldsOf r) tail, fields-size r)
 
 -- a record out has at least its kind and its stream, and at most what a message has
 pub size-within : (k : ℕ) → (2 ≤ sizeOut k) × (sizeOut k ≤ 99)
@@ -60,3 +59,12 @@ size-within k =
   where
     fits : ℕ → Type 0
     fits n = (2 ≤ n) × (n ≤ 99)
+
+-- a message up whose fields and addresses fit the block takes 99 bytes
+pub up-size : (i : ℕ) (r : Reply) (tail : List ℕ) → length (fieldsOf r) * 4 + length tail ≤ 96 → length (bytesOf (up i r tail)) ≡ 99
+unfolding contentOf
+up-size i r tail h = omega (arith, block-length (contentOf r tail) (omega (arith, content-length (fieldsOf r) tail)))
+
+-- so does any with at most 14 bytes behind its fields
+pub up-length : (s : ℕ) (r : Reply) (tail : List ℕ) → length tail ≤ 14 → length (bytesOf (up s r tail)) ≡ 99
+up-length s r tail h = up-size s r tail (omega (arith, fields-few r))

@@ -62,8 +62,8 @@ broken =
     ∷ record { remembers = false; counter = 1; ppas = []; slots = record { isOpen = true; stream = holding Unattached 0 0 0 0; waiting = [] } ∷ replicate 15 closed }
     ∷ []
 
-abbrev whole : List Table
-whole =
+abbrev soundOnes : List Table
+soundOnes =
     fresh
     ∷ noneOpened
     ∷ unattached
@@ -81,6 +81,6 @@ pub broken-are-unsound : map sound broken ≡ replicate 20 false
 unfolding sound soundSlot holdsNothing isSingle isAlone occurrences listens asBindAllows isSap isType
 broken-are-unsound = refl
 
-pub whole-are-sound : map sound whole ≡ replicate 10 true
+pub whole-are-sound : map sound soundOnes ≡ replicate 10 true
 unfolding sound soundSlot holdsNothing isSingle isAlone occurrences listens asBindAllows isSap isType
 whole-are-sound = refl

@@ -1,15 +1,19 @@
--- Of the eight states the bound, connection and joined ones are those from a number on, and the calling ones are 8 and the joined:
--- so a list is tested by numbers.
-use Prim.Native.Nat.{ℕ}
+-- The states and their numbers: each state has its own, and what a list of states says of one is computed for the eight.
+use Prim.Native.Nat.{ℕ, _<_}
 use native.Mathlib.Omega.{arith}
-use mathlib.Core.Path.{_≡_, refl}
-use mathlib.Core.Bool.{true, false}
+use mathlib.Core.Path.{_≡_, refl, sym, _∙_, ap}
+use mathlib.Core.Bool.{true, false, not, Bool}
 use lib.Dec.{eqb, leb}
-use Rattle.ledger.specs.Choice.{either}
+use borrow.Author.Tests.{not-true}
+use Rattle.ledger.specs.Choice.{_⇒_∣_, pick, either}
 use Rattle.ledger.specs.Tally.{has}
-use Rattle.paper.specs.Base.{numberOf, everyState, boundStates, connectionStates, callingStates, joinedStates}
+use Rattle.ledger.proofs.Sums.{among}
+use Rattle.paper.specs.Base.{numberOf, everyState, boundStates, connectionStates, stateOf, noStream, attachedIn, inState, settled, callingStates, joinedStates}
 use Rattle.paper.specs.declared.State.{State}
 use Rattle.paper.specs.declared.State.the-variants.{Unattached, Unbound, Idle, OutconPending, InconPending, DataXfer, UserResetPending, ProvResetPending}
+use Rattle.paper.specs.declared.Stream.{Stream}
+
+-- ---- the numbers
 
 -- what holds of the eight numbers holds of a state's
 pub each-number : (P : ℕ → Type 0) → P 0 → P 3 → P 6 → P 8 → P 9 → P 11 → P 12 → P 13 → (q : State) → P (numberOf q)
@@ -25,6 +29,29 @@ each-number P a b d e f g h i ProvResetPending = i
 pub in-every : (q : State) → has (numberOf q) everyState ≡ true
 in-every = each-number (λ n. has n everyState ≡ true) refl refl refl refl refl refl refl refl
 
+-- a state's number is a byte
+pub state-byte : (q : State) → numberOf q < 256
+state-byte = each-number (λ n. n < 256) (omega arith) (omega arith) (omega arith) (omega arith) (omega arith) (omega arith) (omega arith) (omega arith)
+
+-- a number tells its state again
+pub state-back : (q : State) → stateOf (numberOf q) ≡ q
+unfolding stateOf _⇒_∣_
+state-back Unattached = refl
+state-back Unbound = refl
+state-back Idle = refl
+state-back OutconPending = refl
+state-back InconPending = refl
+state-back DataXfer = refl
+state-back UserResetPending = refl
+state-back ProvResetPending = refl
+
+-- 0 is the number of one state alone
+pub in-zero : (q : State) → numberOf q ≡ 0 → q ≡ Unattached
+unfolding stateOf _⇒_∣_
+in-zero q e = sym (state-back q) ∙ ap stateOf e
+
+-- ---- the lists of states: as the code tests them, and against each other
+
 pub bound-from : (q : State) → leb 6 (numberOf q) ≡ has (numberOf q) boundStates
 bound-from = each-number (λ n. leb 6 n ≡ has n boundStates) refl refl refl refl refl refl refl refl
 
@@ -37,17 +64,23 @@ joined-from = each-number (λ n. leb 11 n ≡ has n joinedStates) refl refl refl
 pub calling-from : (q : State) → has (numberOf q) callingStates ≡ either (eqb (numberOf q) 8) (has (numberOf q) joinedStates)
 calling-from = each-number (λ n. has n callingStates ≡ either (eqb n 8) (has n joinedStates)) refl refl refl refl refl refl refl refl
 
--- What is no binding is none in mode 1.
+-- 0 holds no binding, and the states of a connection hold one
+pub bound-attached : (n : ℕ) → has n boundStates ≡ true → eqb n 0 ≡ false
+bound-attached n h = not-true _ (among (λ (m : ℕ). not (eqb m 0)) n boundStates refl h)
+
+pub connection-bound : (n : ℕ) → has n connectionStates ≡ true → has n boundStates ≡ true
+connection-bound n h = among (λ (m : ℕ). has m boundStates) n connectionStates refl h
+
+-- what is no binding is none in mode 1
 pub not-bound : (q : State) → has (numberOf q) boundStates ≡ false → has (numberOf q) connectionStates ≡ false
 not-bound = each-number (λ n. has n boundStates ≡ false → has n connectionStates ≡ false) (λ e. refl) (λ e. refl) (λ e. refl) (λ e. e) (λ e. e) (λ e. e) (λ e. e) (λ e. e)
 
--- 0 is the number of one state alone.
-pub in-zero : (q : State) → numberOf q ≡ 0 → q ≡ Unattached
-in-zero Unattached e = refl
-in-zero Unbound e = absurd (omega arith)
-in-zero Idle e = absurd (omega arith)
-in-zero OutconPending e = absurd (omega arith)
-in-zero InconPending e = absurd (omega arith)
-in-zero DataXfer e = absurd (omega arith)
-in-zero UserResetPending e = absurd (omega arith)
-in-zero ProvResetPending e = absurd (omega arith)
+-- ---- what a stream holds in a state
+
+-- by the two tests of the state
+pub settled-by : (q : State) (s : Stream) (a b : Bool) → eqb (numberOf q) 0 ≡ a → has (numberOf q) boundStates ≡ b → pick a noStream (pick b (inState q s) (attachedIn q (s .ppa))) ≡ settled q s
+settled-by q s a b e f = rw (sym e, sym f)
+
+-- where a binding is held, all that the stream held stays
+pub settled-bound : (s : Stream) (q : State) → has (numberOf q) boundStates ≡ true → settled q s ≡ inState q s
+settled-bound s q h = rw (bound-attached (numberOf q) h, h)

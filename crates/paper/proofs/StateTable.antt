@@ -27,26 +27,26 @@ abbrev rowsFrom : Seat → List StateRow → List StateRow
 rowsFrom z [] = []
 rowsFrom z (x ∷ rows) = pick (both (eqb (x .from) (z .state)) (eqb (x .mode) (z .mode))) (x ∷ rowsFrom z rows) (rowsFrom z rows)
 
-abbrev asked : Seat → List StateRow
-asked z = stays infoReq z ∷ stays tokenReq z ∷ []
+abbrev inEachState : Seat → List StateRow
+inEachState z = stays infoReq z ∷ stays tokenReq z ∷ []
 
 abbrev byState : List (List StateRow)
 byState =
     -- 0, 3: no bind
-    (asked (seat 0 0) ++ (leads attachReq 0 0 3 ∷ []))
-    ∷ (asked (seat 3 0) ++ (leads detachReq 0 3 0 ∷ leads bindReq 0 3 6 ∷ []))
+    (inEachState (seat 0 0) ++ (leads attachReq 0 0 3 ∷ []))
+    ∷ (inEachState (seat 3 0) ++ (leads detachReq 0 3 0 ∷ leads bindReq 0 3 6 ∷ []))
     -- 6, in mode 1 and in mode 2
-    ∷ (asked (seat 6 1) ++ (leads unbindReq 1 6 3 ∷ leads connectReq 1 6 8 ∷ leads callArrives 1 6 9 ∷ []))
-    ∷ (asked (seat 6 2) ++ (leads unbindReq 2 6 3 ∷ []))
+    ∷ (inEachState (seat 6 1) ++ (leads unbindReq 1 6 3 ∷ leads connectReq 1 6 8 ∷ leads callArrives 1 6 9 ∷ []))
+    ∷ (inEachState (seat 6 2) ++ (leads unbindReq 2 6 3 ∷ []))
     -- 8: a call is asked for
-    ∷ (asked (seat 8 1) ++ (leads disconnectReq 1 8 6 ∷ leads peerAccepted 1 8 11 ∷ leads peerGone 1 8 6 ∷ []))
+    ∷ (inEachState (seat 8 1) ++ (leads disconnectReq 1 8 6 ∷ leads peerAccepted 1 8 11 ∷ leads peerGone 1 8 6 ∷ []))
     -- 9: indications are open
-    ∷ (asked (seat 9 1) ++ (loses connectRes 1 9 9 6 ∷ loses disconnectReq 1 9 9 6 ∷ leads callArrives 1 9 9 ∷ loses callWithdrawn 1 9 9 6 ∷ []))
+    ∷ (inEachState (seat 9 1) ++ (loses connectRes 1 9 9 6 ∷ loses disconnectReq 1 9 9 6 ∷ leads callArrives 1 9 9 ∷ loses callWithdrawn 1 9 9 6 ∷ []))
     -- 11: the call is up
-    ∷ (asked (seat 11 1) ++ (leads disconnectReq 1 11 6 ∷ leads resetReq 1 11 12 ∷ leads peerGone 1 11 6 ∷ leads peerReset 1 11 13 ∷ []))
+    ∷ (inEachState (seat 11 1) ++ (leads disconnectReq 1 11 6 ∷ leads resetReq 1 11 12 ∷ leads peerGone 1 11 6 ∷ leads peerReset 1 11 13 ∷ []))
     -- 12, 13: it is being reset, by the user or by the peer
-    ∷ (asked (seat 12 1) ++ (leads disconnectReq 1 12 6 ∷ leads peerGone 1 12 6 ∷ leads resetConfirmed 1 12 11 ∷ []))
-    ∷ (asked (seat 13 1) ++ (leads disconnectReq 1 13 6 ∷ leads resetRes 1 13 11 ∷ leads peerGone 1 13 6 ∷ []))
+    ∷ (inEachState (seat 12 1) ++ (leads disconnectReq 1 12 6 ∷ leads peerGone 1 12 6 ∷ leads resetConfirmed 1 12 11 ∷ []))
+    ∷ (inEachState (seat 13 1) ++ (leads disconnectReq 1 13 6 ∷ leads resetRes 1 13 11 ∷ leads peerGone 1 13 6 ∷ []))
     ∷ []
 
 pub by-state : map (λ (z : Seat). rowsFrom z stateRows) seats ≡ byState

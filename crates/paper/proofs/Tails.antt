@@ -8,7 +8,6 @@ use lib.ListN.{length, replicate, length-append}
 use lib.Dec.{ltb}
 use Rattle.ledger.specs.Choice.{pick}
 use Rattle.ledger.proofs.Tallies.{picked}
-use Rattle.octets.proofs.Laws.{part-most}
 use Rattle.paper.specs.Base.{isAmong, toldStates}
 use Rattle.paper.specs.RecordsIn.{calledIn, callingIn}
 use Rattle.paper.specs.Replies.{sapBytes, addressOf, infoTail}
@@ -16,6 +15,7 @@ use Rattle.paper.specs.Effects.{behindReply}
 use Rattle.paper.specs.declared.Stream.{Stream}
 use Rattle.paper.specs.declared.Reply.{Reply}
 use Rattle.paper.specs.declared.Reply.the-variants as reply
+use Rattle.octets.proofs.Runs.{part-most}
 
 sap-most : (sap : ℕ) → length (sapBytes sap) ≤ 2
 sap-most sap = picked (λ (l : List ℕ). length l ≤ 2) (ltb sap 256) _ _ (λ e. omega arith) (λ e. omega arith)

@@ -1,6 +1,5 @@
 // What a service or an event does, by value.
 ghost use mathlib.Core.Path.{_≡_};
-ghost use Rattle.paper.specs.Base.{isAmong, joinedStates};
 ghost use Rattle.paper.specs.Effects.{next, onward, unchanged, more, less, boundIn, acting, errorEffect, ok, noNumber, accepting, effectOf, eventEffect};
 ghost use Rattle.paper.specs.Decide.{effectBy};
 ghost use Rattle.paper.specs.declared.Found.the-variants as found;
@@ -70,14 +69,6 @@ fn bound_in(q: State, p: PpaNumber, mode: u8, sap: u16, granted: u8) -> Stream
         ppa: p,
         granted: granted,
     }
-}
-
-// The call is up, or being reset.
-fn is_joined(s: Stream) -> bool
-    ensures { λ r. ⌜ r ≡ isAmong joinedStates s ⌝ }
-{
-    let q = s.state;
-    paper::is_joined(q)
 }
 
 // ---- the effects
@@ -172,7 +163,8 @@ pub fn effect_of(x: StateRow, k: Token, s: Stream, v: Service) -> Effect
         }
         Service::Disconnect(reason) => {
             let order = Telling::Tells(LineOrder::Disconnect(no_number(), reason));
-            acting(onward(x, s), order, is_joined(s), ok(x))
+            let q = s.state;
+            acting(onward(x, s), order, paper::is_joined(q), ok(x))
         }
         // r, no reply; s
         Service::Reset => {

@@ -8,7 +8,8 @@ use lib.Dec.{ltb}
 use borrow.Author.Tests.{ltb-true}
 use Rattle.octets.specs.Runs.{Bytes}
 use Rattle.ledger.proofs.Tallies.{all-at}
-use Rattle.paper.specs.Base.{isAmong, boundStates, Slot, Table, fresh, slot, stream, waiting}
+use Rattle.ledger.proofs.Lists.{replicate-at}
+use Rattle.paper.specs.Base.{isAmong, boundStates, Slot, Table, fresh, slot, stream, waiting, closed}
 use Rattle.paper.specs.StateRows.{stateRows}
 use Rattle.paper.specs.Step.{step}
 use Rattle.fates_book.specs.declared.Line.{Line}
@@ -20,7 +21,7 @@ use Rattle.promises.specs.History.{saidBy, lines, fates, grantedBy}
 use Rattle.promises.proofs.Runs.{Call, answeredBy, run, history}
 use Rattle.promises.proofs.Whole.{read-step}
 use Rattle.keeping.proofs.Sights.{Seen}
-use Rattle.keeping.proofs.Kept.{good, keeps, fresh-sound, fresh-at}
+use Rattle.keeping.proofs.Kept.{good, keeps, fresh-sound}
 use Rattle.keeping.proofs.Rows.{state-rows-fit}
 
 pub are-bytes : (c : Call) → Bytes (c .bytes)
@@ -30,8 +31,8 @@ are-bytes c j = ltb-true _ _ (all-at (λ (b : ℕ). ltb b 256) 0 refl (c .bytes)
 abbrev pub linesFrom : Table → Call → List Line
 linesFrom t c = saidBy (answeredBy (c .bytes) (step t (c .bytes) (c .room)))
 
-seen : (t : Table) → Sound t → (c : Call) (s : ℕ) → Seen s t (linesFrom t c) (step t (c .bytes) (c .room) .table)
-seen t k c s =
+step-seen : (t : Table) → Sound t → (c : Call) (s : ℕ) → Seen s t (linesFrom t c) (step t (c .bytes) (c .room) .table)
+step-seen t k c s =
     subst (λ (ys : List Line). Seen s t ys (step t (c .bytes) (c .room) .table)) (sym (read-step t k (c .bytes) (c .room)))
     (good stateRows state-rows-fit t k (c .bytes) (are-bytes c) (c .room) .seen s)
 
@@ -67,7 +68,7 @@ agrees-run s (c ∷ cs) t b ts g a =
     let ys : List Line = linesFrom t c in
     let zs : List Line = lines (history u cs) in
     let r : Agrees s (run u cs) (posts s zs (posts s ys b)) (λ k. tallies k s zs (tallies k s ys (ts k))) (grantBy s zs (grantBy s ys g))
-    = agrees-run s cs u (posts s ys b) (λ k. tallies k s ys (ts k)) (grantBy s ys g) (agrees-step s t u ys b ts g (kept t (a .sound) c) (seen t (a .sound) c s) a) in
+    = agrees-run s cs u (posts s ys b) (λ k. tallies k s ys (ts k)) (grantBy s ys g) (agrees-step s t u ys b ts g (kept t (a .sound) c) (step-seen t (a .sound) c s) a) in
     record {
       sound = r .sound;
       now = ap (λ (b : List Opening). openOf (newest b)) (posts-append s ys zs b) ∙ r .now;
@@ -79,10 +80,10 @@ agrees-run s (c ∷ cs) t b ts g a =
 pub agrees : (s : ℕ) (cs : List Call) → Agrees s (run fresh cs) (fates s (history fresh cs)) (λ k. tallies k s (lines (history fresh cs)) []) (grantedBy s (history fresh cs))
 agrees s cs = agrees-run s cs fresh [] (λ k. []) 0 (record {
   sound = fresh-sound;
-  now = ap (λ (x : Slot). x .waiting) (sym (fresh-at 16 s));
+  now = ap (λ (x : Slot). x .waiting) (sym (replicate-at 16 closed s));
   left = refl;
   counts = λ k. refl;
-  grants = λ h. absurd (false≢true (sym (ap (λ (x : Slot). isAmong boundStates (x .stream)) (fresh-at 16 s)) ∙ h));
+  grants = λ h. absurd (false≢true (sym (ap (λ (x : Slot). isAmong boundStates (x .stream)) (replicate-at 16 closed s)) ∙ h));
 })
 
 -- ---- every line of a history is fair, and comes to an opening
@@ -93,7 +94,7 @@ unfolding history lines
 fair-run s [] t z k f = (refl, refl)
 fair-run s (c ∷ cs) t z k f =
     let u : Table = step t (c .bytes) (c .room) .table in
-    let n : Seen s t (linesFrom t c) u = seen t z c s in
+    let n : Seen s t (linesFrom t c) u = step-seen t z c s in
     let r : (fairs s (lines (history u cs)) (waiting u s) ≡ true) × (rooteds s (lines (history u cs)) (openingsIn s (linesFrom t c) k) ≡ true)
     = fair-run s cs u (kept t z c) (openingsIn s (linesFrom t c) k) (n .opens k f) in (
       fairs-append s (linesFrom t c) (lines (history u cs)) (waiting t s) (n .fairly) (ap (fairs s (lines (history u cs))) (sym (n .shaded)) ∙ r .0),
@@ -103,5 +104,5 @@ fair-run s (c ∷ cs) t z k f =
 pub fair-history : (s : ℕ) (cs : List Call) → (fairs s (lines (history fresh cs)) [] ≡ true) × (rooteds s (lines (history fresh cs)) 0 ≡ true)
 fair-history s cs =
     let r : (fairs s (lines (history fresh cs)) (waiting fresh s) ≡ true) × (rooteds s (lines (history fresh cs)) 0 ≡ true)
-    = fair-run s cs fresh fresh-sound 0 (λ e. absurd (false≢true (sym (ap (λ (x : Slot). x .isOpen) (fresh-at 16 s)) ∙ e))) in
-    (ap (fairs s (lines (history fresh cs))) (ap (λ (x : Slot). x .waiting) (sym (fresh-at 16 s))) ∙ r .0, r .1)
+    = fair-run s cs fresh fresh-sound 0 (λ e. absurd (false≢true (sym (ap (λ (x : Slot). x .isOpen) (replicate-at 16 closed s)) ∙ e))) in
+    (ap (fairs s (lines (history fresh cs))) (ap (λ (x : Slot). x .waiting) (sym (replicate-at 16 closed s))) ∙ r .0, r .1)

@@ -72,9 +72,9 @@ module _ (t : Table) (r : List ℕ) (room i l : ℕ) where
       step-by stateRows t r room (λ (o : Outcome). o .refusal ≡ 0 → Passed t r room i l o) k (λ n some few z. absurd (omega (arith, some, z)))
       (λ _ b. served-passed b (subst (λ (q : Input). Way stateRows t r q (serveBy stateRows t r (inputOf r))) e (walk stateRows t r (inputOf r))))
 
-passed : (img : List ℕ) (c : Lending) (i l : ℕ) → soundImage img ≡ true → inputOf (c .bytes) ≡ input.Message i l → cameBack c (leftOn img c) .refusal ≡ 0
+call-passed : (img : List ℕ) (c : Lending) (i l : ℕ) → soundImage img ≡ true → inputOf (c .bytes) ≡ input.Message i l → cameBack c (leftOn img c) .refusal ≡ 0
     → Passed (tableOf img) (c .bytes) (length (c .room)) i l (outcome (tableOf img) c)
-passed img c i l s e z =
+call-passed img c i l s e z =
     step-passed (tableOf img) (c .bytes) (length (c .room)) i l (sound-test (tableOf img) (lent-sound img s)) e (sym (refusal-is-the-papers img (c .bytes) (c .room) s) ∙ z)
 
 -- A message of a code that we serve, of its full size, is complete where it is not refused.
@@ -82,14 +82,14 @@ pub complete-by : (img : List ℕ) (c : Lending) (i l : ℕ) (q : Request) → s
     → askedBy (messageIn (c .bytes) l) ≡ For q
     → cameBack c (leftOn img c) .refusal ≡ 0 → Complete (tableOf img) (c .bytes) (length (c .room)) i q
 complete-by img c i l q s e a z =
-    let p : Passed (tableOf img) (c .bytes) (length (c .room)) i l (outcome (tableOf img) c) = passed img c i l s e z in
+    let p : Passed (tableOf img) (c .bytes) (length (c .room)) i l (outcome (tableOf img) c) = call-passed img c i l s e z in
     record { size = l; read = e; isOpen = p .sent .isOpen; coded = p .sent .coded; whole = p .sent .whole; roomy = p .roomy; asks = a }
 
 -- ---- what a message tells: the error of its verdict
 
 message-tells : (img : List ℕ) (c : Lending) (i l : ℕ) → soundImage img ≡ true → inputOf (c .bytes) ≡ input.Message i l → cameBack c (leftOn img c) .refusal ≡ 0
     → errorsTold (cameBack c (leftOn img c) .written) ≡ errorsBy (verdictOf stateRows (tableOf img) i (messageIn (c .bytes) l))
-message-tells img c i l s e z = errors-of-the-call img c s ∙ passed img c i l s e z .tells
+message-tells img c i l s e z = errors-of-the-call img c s ∙ call-passed img c i l s e z .tells
 
 -- A message that is not refused tells the error of the first rule that applies, in the paper's order, and nothing else;
 pub rule-tells : (img : List ℕ) (c : Lending) (i l : ℕ) (a : Rule) → soundImage img ≡ true → inputOf (c .bytes) ≡ input.Message i l → cameBack c (leftOn img c) .refusal ≡ 0

@@ -6,8 +6,8 @@ use mathlib.Core.Bool.{Bool, true, false, not}
 use mathlib.Core.List.{List, [], map, _∷_, _++_}
 use lib.ListN.{length, getD}
 use native.Mathlib.Omega.{arith}
-use borrow.Author.Tests.{eqb-true, ltb-true, ne-eqb, not-true, lt-ltb}
-use Rattle.ledger.proofs.Tallies.{occ-length, empty, to-both}
+use borrow.Author.Tests.{eqb-true, ne-eqb, not-true, lt-ltb}
+use Rattle.ledger.proofs.Tallies.{empty, to-both, has-some}
 use Rattle.paper.specs.StateRows.{stateRows}
 use Rattle.paper.specs.Step.{step}
 use Rattle.paper.specs.declared.Asked.the-variants.{For}
@@ -15,7 +15,7 @@ use Rattle.paper.specs.ErrorOrder.{verdictOn}
 use Rattle.fates_book.specs.Book.{Opening, openCount, tallies, countIn, openOf, newest, posts, countOf, howMany}
 use Rattle.promises.proofs.Named.{names-accept, names-denial, open-denied}
 use Rattle.fates_book.specs.declared.End.the-variants.{Accepted, Denied, Withdrawn, Dropped}
-use Rattle.fates_book.proofs.Counts.{count-at, all-counted, met-counted, sums, none-left}
+use Rattle.fates_book.proofs.Counts.{count-at, indications-counted, met-counted, sums, none-left}
 use Rattle.ledger.specs.Tally.{occ, has, allOf}
 use Rattle.paper.specs.Base.{number, isIn, boundStates, Slot, closed, fresh, slot, stream, waiting, ppaNumbers, Table}
 use Rattle.paper.specs.Correlations.{occurrences}
@@ -89,7 +89,7 @@ counted-are : (x : Harness) (k s j : ℕ) → counted k s j (heardIn x) ≡ coun
 counted-are x k s j = ap (λ (l : List ℕ). getD l j 0) (agreed x s .counts k) ∙ count-at k (fates s (heardIn x)) j
 
 pub indicated-are : (x : Harness) (s j : ℕ) → indicated s j (heardIn x) ≡ length (getD (fates s (heardIn x)) j [])
-indicated-are x s j = counted-are x 0 s j ∙ all-counted (getD (fates s (heardIn x)) j [])
+indicated-are x s j = counted-are x 0 s j ∙ indications-counted (getD (fates s (heardIn x)) j [])
 
 pub accepted-are : (x : Harness) (s j : ℕ) → accepted s j (heardIn x) ≡ howMany Accepted (getD (fates s (heardIn x)) j [])
 accepted-are x s j = counted-are x (countOf Accepted) s j ∙ met-counted Accepted (getD (fates s (heardIn x)) j [])
@@ -126,9 +126,9 @@ pub none-outside-nine : (x : Harness) (s : ℕ) → isIn 9 (stream (tableIn x) s
 none-outside-nine x s e = agreed x s .now ∙ empty (waiting (tableIn x) s) (quiet (ppaNumbers (tableIn x)) (slot (tableIn x) s) (agreed x s .sound .each s) e)
 
 -- The errors told are those of the order of errors.
-told : (x : Harness) (c : Lending) (s : ℕ) (q : Request) → (m : CompleteIn x c s q)
+errors-told : (x : Harness) (c : Lending) (s : ℕ) (q : Request) → (m : CompleteIn x c s q)
     → errorsHeard x c ≡ errorsBy (verdictOn stateRows (tableIn x) s (messageIn (c .bytes) (m .size)) (For q))
-told x c s q m = errors-heard x c ∙ complete-tells stateRows (tableIn x) (stays-sound x) (c .bytes) (length (c .room)) s q m
+errors-told x c s q m = errors-heard x c ∙ complete-tells stateRows (tableIn x) (stays-sound x) (c .bytes) (length (c .room)) s q m
 
 -- "The open ones are exactly those that an accept or a denial may name": while some are open, any other number gets BADCORR,
 in-nine-by : (x : Harness) (s : ℕ) → 0 < length (openBy s (heardIn x)) → isIn 9 (stream (tableIn x) s) ≡ true
@@ -138,7 +138,7 @@ pub accept-may-name : (x : Harness) (c : Lending) (s : ℕ) (a : ConnectResponse
     → CompleteIn x c s (request.ConnectRes a) → 0 < length (openBy s (heardIn x))
     → not (has badCorr (errorsHeard x c)) ≡ has (a .correlation .0) (openBy s (heardIn x))
 accept-may-name x c s a m h =
-    ap (λ (l : List ℕ). not (has badCorr l)) (told x c s (request.ConnectRes a) m)
+    ap (λ (l : List ℕ). not (has badCorr l)) (errors-told x c s (request.ConnectRes a) m)
     ∙ names-accept (tableIn x) s (agreed x s .sound) (in-nine-by x s h) (messageIn (c .bytes) (m .size)) a
     ∙ ap (has (a .correlation .0)) (sym (agreed x s .now))
 
@@ -146,26 +146,22 @@ pub denial-may-name : (x : Harness) (c : Lending) (s : ℕ) (d : DisconnectReque
     → CompleteIn x c s (request.Disconnect d) → 0 < length (openBy s (heardIn x))
     → not (has badCorr (errorsHeard x c)) ≡ has (d .correlation .0) (openBy s (heardIn x))
 denial-may-name x c s d m h =
-    ap (λ (l : List ℕ). not (has badCorr l)) (told x c s (request.Disconnect d) m)
+    ap (λ (l : List ℕ). not (has badCorr l)) (errors-told x c s (request.Disconnect d) m)
     ∙ names-denial (tableIn x) s (agreed x s .sound) (in-nine-by x s h) (messageIn (c .bytes) (m .size)) d
     ∙ ap (has (d .correlation .0)) (sym (agreed x s .now))
-
--- an accept of an open one never does,
-some-open : (n : ℕ) (l : List ℕ) → has n l ≡ true → 0 < length l
-some-open n l h = omega (arith, ltb-true 0 (occ n l) h, occ-length n l)
 
 pub open-may-be-accepted : (x : Harness) (c : Lending) (s : ℕ) (a : ConnectResponse)
     → CompleteIn x c s (request.ConnectRes a) → has (a .correlation .0) (openBy s (heardIn x)) ≡ true
     → has badCorr (errorsHeard x c) ≡ false
-open-may-be-accepted x c s a m h = not-true _ (accept-may-name x c s a m (some-open (a .correlation .0) (openBy s (heardIn x)) h) ∙ h)
+open-may-be-accepted x c s a m h = not-true _ (accept-may-name x c s a m (has-some (a .correlation .0) (openBy s (heardIn x)) h) ∙ h)
 
 -- and a denial of an open one gets no error at all.
 pub open-is-denied : (x : Harness) (c : Lending) (s : ℕ) (d : DisconnectRequest)
     → CompleteIn x c s (request.Disconnect d) → has (d .correlation .0) (openBy s (heardIn x)) ≡ true
     → errorsHeard x c ≡ []
 open-is-denied x c s d m h =
-    let n : isIn 9 (stream (tableIn x) s) ≡ true = in-nine-by x s (some-open (d .correlation .0) (openBy s (heardIn x)) h) in
-    told x c s (request.Disconnect d) m
+    let n : isIn 9 (stream (tableIn x) s) ≡ true = in-nine-by x s (has-some (d .correlation .0) (openBy s (heardIn x)) h) in
+    errors-told x c s (request.Disconnect d) m
     ∙ ap errorsBy (open-denied (tableIn x) s (agreed x s .sound) n (messageIn (c .bytes) (m .size)) d (ap (has (d .correlation .0)) (sym (agreed x s .now)) ∙ h))
 
 -- And no other one is ever named: where a record ends an indication, an `a`, a `d` with a number or a DISCONNECT_IND with one, it

@@ -250,8 +250,8 @@ arrival-in-the-book x c p sap e z =
 abbrev Stays : Harness → Lending → ℕ → Type 0
 Stays x c i = (fates i (heardIn (andThen x c)) ≡ fates i (heardIn x)) × ((k : ℕ) → tallies k i (lines (heardIn (andThen x c))) [] ≡ tallies k i (lines (heardIn x)) [])
 
-stays : (x : Harness) (c : Lending) (i : ℕ) (ys : List Line) → telling (saidBy (nextIn x c)) ≡ ys → allOf (λ (y : Line). not (concerns i y)) ys ≡ true → Stays x c i
-stays x c i ys e h = (
+untouched : (x : Harness) (c : Lending) (i : ℕ) (ys : List Line) → telling (saidBy (nextIn x c)) ≡ ys → allOf (λ (y : Line). not (concerns i y)) ys ≡ true → Stays x c i
+untouched x c i ys e h = (
   fates-more x c i
       ∙ sym (posts-telling i (saidBy (nextIn x c)) (fates i (heardIn x)))
       ∙ ap (λ (zs : List Line). posts i zs (fates i (heardIn x))) e
@@ -263,18 +263,18 @@ stays x c i ys e h = (
 -- of another stream than the one whose calls end,
 pub ends-alone : (x : Harness) (c : Lending) (i s : ℕ) (e : End) (w : List ℕ) → telling (saidBy (nextIn x c)) ≡ map (λ (n : ℕ). Went s n e) w → (i ≡ s → ⊥)
     → (fates i (heardIn (andThen x c)) ≡ fates i (heardIn x)) × ((k : ℕ) → tallies k i (lines (heardIn (andThen x c))) [] ≡ tallies k i (lines (heardIn x)) [])
-ends-alone x c i s e w h d = stays x c i _ h (none-ends i s e w d)
+ends-alone x c i s e w h d = untouched x c i _ h (none-ends i s e w d)
 
 -- or than the one to which a call rings in,
 pub arrives-alone : (x : Harness) (c : Lending) (i s n : ℕ) → telling (saidBy (nextIn x c)) ≡ Came s n ∷ [] → (i ≡ s → ⊥)
     → (fates i (heardIn (andThen x c)) ≡ fates i (heardIn x)) × ((k : ℕ) → tallies k i (lines (heardIn (andThen x c))) [] ≡ tallies k i (lines (heardIn x)) [])
-arrives-alone x c i s n h d = stays x c i _ h (none-comes i s n d)
+arrives-alone x c i s n h d = untouched x c i _ h (none-comes i s n d)
 
 -- and of any stream where only a grant is said, or nothing.
 pub grant-ends-none : (x : Harness) (c : Lending) (i s g : ℕ) → telling (saidBy (nextIn x c)) ≡ Given s g ∷ []
     → (fates i (heardIn (andThen x c)) ≡ fates i (heardIn x)) × ((k : ℕ) → tallies k i (lines (heardIn (andThen x c))) [] ≡ tallies k i (lines (heardIn x)) [])
-grant-ends-none x c i s g h = stays x c i _ h refl
+grant-ends-none x c i s g h = untouched x c i _ h refl
 
 pub silence-ends-none : (x : Harness) (c : Lending) (i : ℕ) → telling (saidBy (nextIn x c)) ≡ []
     → (fates i (heardIn (andThen x c)) ≡ fates i (heardIn x)) × ((k : ℕ) → tallies k i (lines (heardIn (andThen x c))) [] ≡ tallies k i (lines (heardIn x)) [])
-silence-ends-none x c i h = stays x c i _ h refl
+silence-ends-none x c i h = untouched x c i _ h refl

@@ -11,6 +11,7 @@ use borrow.Author.Tests.{eqb-true, eqb-false, eq-eqb, ne-eqb}
 use Rattle.ledger.specs.Choice.{pick}
 use Rattle.ledger.specs.Tally.{oneIf}
 use Rattle.ledger.proofs.Tallies.{picked}
+use Rattle.ledger.proofs.Lists.{replicate-at}
 use Rattle.fates_book.specs.declared.End.the-variants.{Withdrawn}
 use Rattle.fates_book.specs.declared.Line.{Line}
 use Rattle.fates_book.specs.declared.Line.the-variants.{Began, Went, Nothing}
@@ -18,7 +19,7 @@ use Rattle.fates_book.specs.Book.{earlier, posts, tallies}
 use Rattle.fates_book.specs.Lines.{parting, openingLines}
 use Rattle.fates_book.proofs.Said.{orderLine, replyLine, lineOf}
 use Rattle.fates_book.proofs.Shades.{openings, openingsIn, openings-append, length-posts, earlier-posts}
-use Rattle.paper.specs.Base.{Slot, Table, fresh, slot}
+use Rattle.paper.specs.Base.{Slot, Table, fresh, slot, closed}
 use Rattle.paper.specs.RecordsIn.{inputOf}
 use Rattle.paper.specs.RecordsOut.{Record, order, flush, up}
 use Rattle.paper.specs.Refusals.{Outcome}
@@ -36,7 +37,7 @@ use Rattle.promises.proofs.Runs.{Call, answeredBy, run, history}
 use Rattle.promises.proofs.Agreement.{linesFrom, kept}
 use Rattle.promises.proofs.Harness.{outcome, asCall, next-is, lines-heard, fates-more, counts-more, callsOf, history-is, table-is, agreed, fair-heard}
 use Rattle.promises.proofs.Orderly.{Orderly, orderly}
-use Rattle.keeping.proofs.Kept.{fresh-sound, fresh-at}
+use Rattle.keeping.proofs.Kept.{fresh-sound}
 use Rattle.promises.proofs.Whole.{read-step}
 
 -- ---- the lines of a call begin an opening where it gives a token, and there alone
@@ -154,7 +155,7 @@ openings-are-opens x s =
 pub open-by-the-calls : (x : Harness) (s : ℕ) → isOpenBy s (heardIn x) false ≡ slot (tableIn x) s .isOpen
 open-by-the-calls x s =
     ap (λ (h : List Answered). isOpenBy s h false) (history-is x)
-    ∙ ap (isOpenBy s (history fresh (callsOf x))) (sym (ap (λ (y : Slot). y .isOpen) (fresh-at 16 s)))
+    ∙ ap (isOpenBy s (history fresh (callsOf x))) (sym (ap (λ (y : Slot). y .isOpen) (replicate-at 16 closed s)))
     ∙ open-run s (callsOf x) fresh fresh-sound
     ∙ ap (λ (t : Table). slot t s .isOpen) (sym (table-is x))
 

@@ -12,8 +12,7 @@ use lib.Dec.{eqb, ltb}
 use borrow.Author.Tests.{eqb-true, eqb-false, eq-eqb, ne-eqb, lt-ltb}
 use Rattle.ledger.specs.Choice.{both, either}
 use Rattle.ledger.specs.Tally.{occ, has}
-use Rattle.ledger.proofs.Tallies.{chosen, to-both, both-none, within}
-use Rattle.table_image.proofs.Joined.{part-length}
+use Rattle.ledger.proofs.Tallies.{chosen, to-both, both-none, within, either-right}
 use Rattle.fates_book.specs.declared.End.the-variants.{Denied, Withdrawn, Dropped}
 use Rattle.fates_book.specs.declared.Line.the-variants.{Went}
 use Rattle.fates_book.specs.Lines.{isMessageOf, mayBeSaid}
@@ -45,30 +44,27 @@ use Rattle.promises.specs.History.{opensStream, closesStream, openAfter}
 use Rattle.promises.proofs.Letters.{Letter, letter, no-close}
 use Rattle.promises.proofs.Written.{errorsIn, errorsOf, service-silent, event-silent, size, told-errors, told-short, AllRight, may-end, lineUp, told-right}
 use Rattle.promises.proofs.Runs.{answeredBy}
-
-either-right : (a b : Bool) → b ≡ true → either a b ≡ true
-either-right true b h = refl
-either-right false b h = h
+use Rattle.octets.proofs.Runs.{part-length}
 
 none-first : (s : ℕ) → eqb 0 (suc s) ≡ false
 none-first s = ne-eqb 0 (suc s) (λ e. omega (arith, e))
 
 -- ---- no effect opens or closes a stream
 
-open-calls : (t : Table) (i : ℕ) (x : Stream) (w : List ℕ) (s : ℕ) → slot (withNumbers t i x w) s .isOpen ≡ slot t s .isOpen
+open-numbers : (t : Table) (i : ℕ) (x : Stream) (w : List ℕ) (s : ℕ) → slot (withNumbers t i x w) s .isOpen ≡ slot t s .isOpen
 unfolding withNumbers withSlot
-open-calls t i x w s = put-same (λ (y : Slot). y .isOpen) closed (t .slots) i s (record { isOpen = slot t i .isOpen; stream = x; waiting = w }) refl
+open-numbers t i x w s = put-same (λ (y : Slot). y .isOpen) closed (t .slots) i s (record { isOpen = slot t i .isOpen; stream = x; waiting = w }) refl
 
 open-changed : (t : Table) (i : ℕ) (c : Change) (s : ℕ) → slot (changed t i c) s .isOpen ≡ slot t s .isOpen
 unfolding changed withStream withCounter withNumbers withSlot
 open-changed t i Stays s = refl
-open-changed t i (Becomes x) s = open-calls t i x (waiting t i) s
-open-changed t i (Takes x n) s = open-calls t i x (waiting t i ++ (n .0 ∷ [])) s
-open-changed t i (Loses x n last) s = open-calls t i _ _ s
+open-changed t i (Becomes x) s = open-numbers t i x (waiting t i) s
+open-changed t i (Takes x n) s = open-numbers t i x (waiting t i ++ (n .0 ∷ [])) s
+open-changed t i (Loses x n last) s = open-numbers t i _ _ s
 
 open-carried : (t : Table) (c : ℕ) (b : Bool) (s : ℕ) → slot (carried t c b) s .isOpen ≡ slot t s .isOpen
 unfolding carried withStream
-open-carried t c true s = open-calls t c _ (waiting t c) s
+open-carried t c true s = open-numbers t c _ (waiting t c) s
 open-carried t c false s = refl
 
 open-enacted : (t : Table) (i c : ℕ) (m : List ℕ) (e : Effect) (s : ℕ) → slot (enacted t i c m e) s .isOpen ≡ slot t s .isOpen

@@ -1,17 +1,17 @@
 -- What the records of a call name: an a and a d only a call that was open before it, and each line only what its record may say. Both hold
 -- record by record (`Right`), and so of the bytes written.
-use Prim.Native.Nat.{ℕ, _+_, _*_, _/_, _%_, zero, suc}
+use Prim.Native.Nat.{ℕ, zero, suc}
 use mathlib.Core.Path.{_≡_, refl, ap, _∙_}
 use mathlib.Core.Bool.{Bool, true, false}
 use mathlib.Core.List.{List, [], _∷_, _++_, map}
 use lib.ListN.{length, getD}
 use lib.Dec.{eqb}
-use native.Mathlib.Omega.{arith}
 use borrow.Author.Tests.{eq-eqb}
 use Rattle.ledger.specs.Choice.{pick, either}
 use Rattle.ledger.specs.Tally.{has, allOf}
 use Rattle.ledger.proofs.Tallies.{to-both, both-of}
 use Rattle.octets.specs.Numbers.{be32At}
+use Rattle.octets.proofs.Numbers.{be32At-be32}
 use Rattle.fates_book.specs.Lines.{asker, recordsIn, openingLines, mayBeSaid}
 use Rattle.fates_book.proofs.ReadBack.{starts, told-apart}
 use Rattle.fates_book.proofs.Said.{lineOf}
@@ -31,14 +31,11 @@ use Rattle.promises.proofs.Written.{Opened, AllRight}
 
 module _ (t : Table) (r : List ℕ) (q : Input) where
   -- a record read from its bytes
-  back : (v : ℕ) → v / 16777216 * 16777216 + v / 65536 % 256 * 65536 + v / 256 % 256 * 256 + v % 256 ≡ v
-  back v = omega arith
-
   in-bytes : (a : Record) (rest : List ℕ) → Opened t q a → namesOpen (waiting t) (asker q) (bytesOf a ++ rest) ≡ true
   unfolding contentOf
   in-bytes (order i (lineOrder.Connect at) called) rest h = refl
-  in-bytes (order i (lineOrder.Accept n) called) rest h = ap (λ (m : ℕ). has m (waiting t (asker q))) (back (n .0)) ∙ h
-  in-bytes (order i (lineOrder.Disconnect n reason) called) rest h = ap (λ (m : ℕ). either (eqb m 0) (has m (waiting t i))) (back (n .0)) ∙ h
+  in-bytes (order i (lineOrder.Accept n) called) rest h = ap (λ (m : ℕ). has m (waiting t (asker q))) (be32At-be32 (n .0) []) ∙ h
+  in-bytes (order i (lineOrder.Disconnect n reason) called) rest h = ap (λ (m : ℕ). either (eqb m 0) (has m (waiting t i))) (be32At-be32 (n .0) []) ∙ h
   in-bytes (order i lineOrder.Reset called) rest h = refl
   in-bytes (order i lineOrder.ResetAnswer called) rest h = refl
   in-bytes (flush i) rest h = refl

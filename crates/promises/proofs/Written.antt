@@ -11,7 +11,7 @@ use Rattle.ledger.specs.Choice.{pick, either}
 use Rattle.ledger.specs.Tally.{has}
 use Rattle.ledger.proofs.Tallies.{picked}
 use Rattle.octets.specs.Runs.{part}
-use Rattle.octets.proofs.Laws.{part-most}
+use Rattle.octets.proofs.Runs.{part-most}
 use Rattle.paper.specs.Base.{Slot, Table, waiting}
 use Rattle.paper.specs.RecordsOut.{Record, order, flush, up, flushIf, inOrder, bytesOf, allBytes}
 use Rattle.paper.specs.Replies.{fieldsOf}
@@ -34,13 +34,13 @@ use Rattle.paper.specs.declared.Telling.{Telling}
 use Rattle.paper.specs.declared.Telling.the-variants.{Untold, Tells}
 use Rattle.paper.specs.declared.Token.{Token}
 use Rattle.paper.proofs.Tails.{tail-most}
-use Rattle.paper.proofs.Sizes.{fields-few}
+use Rattle.paper.proofs.Sizes.{fields-few, up-size}
 use Rattle.fates_book.specs.Lines.{asker, mayBeSaid}
 use Rattle.fates_book.specs.declared.End.{End}
 use Rattle.fates_book.specs.declared.Line.{Line}
 use Rattle.fates_book.specs.declared.Line.the-variants.{Went, Nothing}
 use Rattle.fates_book.proofs.Said.{replyLine, lineOf}
-use Rattle.fates_book.proofs.ReadBack.{Sized, AllSized, up-size}
+use Rattle.fates_book.proofs.ReadBack.{Sized, AllSized}
 
 -- ---- the errors that records tell, by their content
 

@@ -5,10 +5,9 @@ ghost use Prim.Native.Nat.{_+_, _<_, _≤_};
 ghost use lib.ListN.{length};
 ghost use Rattle.octets.specs.Runs.{paste};
 ghost use Rattle.table_image.specs.Layout.{soundImage};
-ghost use Rattle.turns.specs.Turns.{Fine, Ready};
+ghost use Rattle.turns.specs.Turns.{callOn, afterCall, turnAfter, afterTurn, Fine, Ready};
 ghost use Rattle.call_outcomes.specs.Leaving.{callMade, isRefused};
-ghost use Rattle.replay.specs.Printed.{printed};
-ghost use Rattle.replay.specs.Turns.{callOn, textOn, called, turnAfter, tableAfter, outputAfter};
+ghost use Rattle.replay.specs.Printed.{printed, textOn};
 use turns::Turn;
 
 // A call that was made and printed: where its text ends, and whether it was refused.
@@ -37,7 +36,7 @@ fn replay_call(table: &mut [u8], bytes: &[u8], out: &mut [u8], at: usize, n: u64
 // The call on what is not read yet, and its text behind what is printed already.
 fn called(table: &mut [u8], input: &[u8], output: &mut [u8], t: Turn) -> Turn
     requires { ⌜ (soundImage (now table) ≡ true) × (length (now input) ≡ 65536) × (length (now output) ≡ 65536) × Ready t × (t .calls < 18446744073709551615) ⌝ }
-    ensures { λ r. ⌜ (r ≡ called (now (table .entry)) (now (input .entry)) t) × Fine r ⌝ }
+    ensures { λ r. ⌜ (r ≡ afterCall (now (input .entry)) (t .filled + length (textOn (now (table .entry)) (now (input .entry)) t)) (isRefused (callOn (now (table .entry)) (now (input .entry)) t)) t) × Fine r ⌝ }
     ensures { λ r. ⌜ (now (table .exit) ≡ callOn (now (table .entry)) (now (input .entry)) t .image) × (soundImage (now (table .exit)) ≡ true) ⌝ }
     ensures { λ r. ⌜ now (output .exit) ≡ paste (now (output .entry)) (t .filled) (textOn (now (table .entry)) (now (input .entry)) t) ⌝ }
 {
@@ -51,9 +50,9 @@ fn called(table: &mut [u8], input: &[u8], output: &mut [u8], t: Turn) -> Turn
 // at one that is cut or of an unknown kind.
 fn turned(table: &mut [u8], input: &[u8], output: &mut [u8], t: Turn) -> Turn
     requires { ⌜ (soundImage (now table) ≡ true) × (length (now input) ≡ 65536) × (length (now output) ≡ 65536) × Ready t ⌝ }
-    ensures { λ r. ⌜ (r ≡ turnAfter (now (table .entry)) (now (input .entry)) t) × Fine r ⌝ }
-    ensures { λ r. ⌜ (now (table .exit) ≡ tableAfter (now (table .entry)) (now (input .entry)) t) × (soundImage (now (table .exit)) ≡ true) ⌝ }
-    ensures { λ r. ⌜ now (output .exit) ≡ outputAfter (now (table .entry)) (now (input .entry)) (now (output .entry)) t ⌝ }
+    ensures { λ r. ⌜ (r ≡ turnAfter (now (input .entry)) (textOn (now (table .entry)) (now (input .entry)) t) (isRefused (callOn (now (table .entry)) (now (input .entry)) t)) t) × Fine r ⌝ }
+    ensures { λ r. ⌜ (now (table .exit) ≡ afterTurn t (now (table .entry)) (callOn (now (table .entry)) (now (input .entry)) t .image)) × (soundImage (now (table .exit)) ≡ true) ⌝ }
+    ensures { λ r. ⌜ now (output .exit) ≡ afterTurn t (now (output .entry)) (paste (now (output .entry)) (t .filled) (textOn (now (table .entry)) (now (input .entry)) t)) ⌝ }
 {
     if turns::waits(t) {
         return t;

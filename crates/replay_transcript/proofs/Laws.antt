@@ -6,7 +6,7 @@ use mathlib.Core.List.{List, [], _∷_, _++_}
 use lib.ListN.{length, getD, take, drop, length-append, length-drop, length-take, drop-of-length-le}
 use lib.Seq.{drop-cons, drop-drop}
 use Rattle.ledger.proofs.Tallies.{chosen, empty}
-use Rattle.octets.specs.Runs.{part}
+use Rattle.octets.proofs.Runs.{part-within}
 use Rattle.text.specs.Digits.{decimal, hex}
 use Rattle.text.proofs.Laws.{decimal-most, hex-length}
 use Rattle.replay_transcript.specs.Transcript.{shownOf, pair, spaced, recordLine, recordLines, wordRefused, wordOpen, wordOk, callText, wordRecords, wordRefusedEnd, totals}
@@ -14,10 +14,6 @@ use Rattle.paper.specs.RecordsOut.{sizeOut}
 use Rattle.paper.proofs.Sizes.{size-within}
 
 -- ---- how long
-
--- no more is shown than is there
-part-within : (r : List ℕ) (at n : ℕ) → length (part r at n) ≤ length r
-part-within r at n = omega (arith, length-take n (drop at r), length-drop at r)
 
 pub shown-most : (r : List ℕ) → length (shownOf r) ≤ length r
 unfolding shownOf

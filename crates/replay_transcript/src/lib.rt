@@ -51,7 +51,7 @@ fn put_record(out: &mut [u8], at: usize, n: u64, r: &[u8]) -> usize
 }
 
 // The lines of records that stand one behind the other.
-fn put_records(out: &mut [u8], at: usize, n: u64, rs: &[u8]) -> usize
+fn put_lines(out: &mut [u8], at: usize, n: u64, rs: &[u8]) -> usize
     requires { ⌜ (length (now rs) ≤ 128) × (at + 20000 ≤ length (now out)) ⌝ }
     ensures { λ e. ⌜ (e ≡ at + length (allLines n (now (rs .entry)))) × (now (out .exit) ≡ paste (now (out .entry)) at (allLines n (now (rs .entry)))) ⌝ }
 {
@@ -119,7 +119,7 @@ pub fn put_call(out: &mut [u8], at: usize, n: u64, answer: u32, room: &[u8]) -> 
     if written == 0 {
         return put_ok(out, at, n);
     }
-    put_records(out, at, n, start_of(room, written))
+    put_lines(out, at, n, start_of(room, written))
 }
 
 // 'dlpi replay'

@@ -43,13 +43,13 @@ one-shl i h = let e : 1 * 2 ^ i % 2 ^ 16 ≡ 1 * 2 ^ i = shl-exact 1 i 16 (lit< 
 -- ---- bits of the mask
 
 -- 1 for a closed slot
-abbrev isFree : Slot → ℕ
-isFree x = oneIf (not (x .isOpen))
+abbrev freeBit : Slot → ℕ
+freeBit x = oneIf (not (x .isOpen))
 
-free-le : (x : Slot) → isFree x ≤ 1
+free-le : (x : Slot) → freeBit x ≤ 1
 free-le x = one-most (not (x .isOpen))
 
-mask-low : (x : Slot) (l : List Slot) → maskOf (x ∷ l) % 2 ≡ isFree x
+mask-low : (x : Slot) (l : List Slot) → maskOf (x ∷ l) % 2 ≡ freeBit x
 mask-low x l = omega (arith, free-le x)
 
 mask-half : (x : Slot) (l : List Slot) → maskOf (x ∷ l) / 2 ≡ maskOf l

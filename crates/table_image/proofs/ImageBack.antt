@@ -1,5 +1,5 @@
 -- The image of the table that a tidy image holds is that image.
-use Prim.Native.Nat.{ℕ, zero, suc, _+_, _*_, _/_, _%_, _≤_, _<_}
+use Prim.Native.Nat.{ℕ, zero, suc, _+_, _*_, _≤_, _<_}
 use native.Mathlib.Omega.{arith}
 use mathlib.Core.Path.{_≡_, refl, sym, ap, ap₂, _∙_}
 use mathlib.Core.Bool.{Bool, true, false, not}
@@ -12,13 +12,15 @@ use Rattle.ledger.specs.Choice.{_⇒_∣_}
 use Rattle.ledger.specs.Tally.{oneIf, occ}
 use Rattle.octets.specs.Numbers.{be16At, be32At, be16, be32}
 use Rattle.octets.specs.Runs.{Bytes, part}
+use Rattle.octets.proofs.Runs.{part-length, part-bytes, part-add}
+use Rattle.octets.proofs.Numbers.{be32At-part, be16-back, be32-back}
 use Rattle.paper.specs.Base.{numberOf, Slot, stateOf, everyState}
 use Rattle.paper.specs.declared.State.{State}
 use Rattle.paper.specs.declared.State.the-variants.{Unbound, Idle, OutconPending, InconPending, DataXfer, UserResetPending, ProvResetPending}
 use Rattle.table_image.specs.Layout.{ppaBase, slotBase, listed, bit, ppaFrom, streamFrom, waitingFrom, maskIn, slotAt, ppaAt, tableOf, padTo, joined, maskOf, ppaBytes, streamBytes, waitingBytes, slotBytes, headerBytes, imageOf, isState, tidy}
 use Rattle.table_image.proofs.Bits.{mask-only}
-use Rattle.table_image.proofs.Joined.{listed-length, listed-back, part-length, part-bytes, part-add, joined-listed, pad-listed}
-use Rattle.table_image.proofs.TableBack.{slot-at, be32At-part, flat-joined}
+use Rattle.table_image.proofs.Joined.{listed-length, listed-back, joined-listed, pad-listed}
+use Rattle.table_image.proofs.TableBack.{slot-at, flat-joined}
 use Rattle.table_image.proofs.TidyImage.{TidySlot, Tidy, tidy-parts}
 
 -- the first bytes of a list, one by one
@@ -26,21 +28,6 @@ front : (c : List ℕ) (n : ℕ) → n ≤ length c → listed (λ k. getD c k 0
 front c n h = listed-back (λ k. getD c k 0) (take n c) n 0 (length-take-le n c h) (λ k b. sym (getD-take n c k 0 b))
 
 -- ---- bytes out of their numbers again
-
-be16-back : (a b : ℕ) → b < 256 → be16 (a * 256 + b) ≡ a ∷ b ∷ []
-be16-back a b g =
-    let x : (a * 256 + b) / 256 ≡ a = omega arith in
-    let y : (a * 256 + b) % 256 ≡ b = omega arith in
-    λ i. x i ∷ y i ∷ []
-
-be32-back : (a b c d : ℕ) → b < 256 → c < 256 → d < 256 → be32 (a * 16777216 + b * 65536 + c * 256 + d) ≡ a ∷ b ∷ c ∷ d ∷ []
-be32-back a b c d f g h =
-    let v : ℕ = a * 16777216 + b * 65536 + c * 256 + d in
-    let w : v / 16777216 ≡ a = omega arith in
-    let x : v / 65536 % 256 ≡ b = omega arith in
-    let y : v / 256 % 256 ≡ c = omega arith in
-    let z : v % 256 ≡ d = omega arith in
-    λ i. w i ∷ x i ∷ y i ∷ z i ∷ []
 
 -- one test of those for a state's number
 state-test : (n k : ℕ) (a b : State) → numberOf a ≡ k → (eqb n k ≡ false → numberOf b ≡ n) → numberOf (eqb n k ⇒ a ∣ b) ≡ n

@@ -5,11 +5,10 @@ use native.Mathlib.Nat.{zero-mul, suc-mul}
 use mathlib.Core.Path.{_≡_, refl, sym, ap, _∙_}
 use mathlib.Core.Bool.{true}
 use mathlib.Core.List.{List, [], _∷_, _++_, append-assoc, append-nil}
-use lib.ListN.{length, getD, take, drop, set, replicate, length-append, length-replicate, length-drop, replicate-append-replicate}
-use lib.Seq.{take-at, drop-at, take-length, take-add, drop-drop, length-take-le, getD-take, getD-drop, split-at, set-split, ext-getD}
-use Rattle.octets.specs.Numbers.{be16At, be32At}
-use Rattle.octets.specs.Runs.{Bytes, part, paste, allZero}
-use Rattle.octets.proofs.Laws.{paste-middle, zero-replicate}
+use lib.ListN.{length, getD, take, drop, set, replicate, length-append, length-replicate, replicate-append-replicate}
+use lib.Seq.{take-at, drop-at, take-length, split-at, set-split, ext-getD}
+use Rattle.octets.specs.Runs.{part, paste, allZero}
+use Rattle.octets.proofs.Runs.{zero-replicate, part-length, part-add, paste-middle}
 use Rattle.table_image.specs.Layout.{listed, joined, padTo}
 
 -- ---- elements
@@ -42,31 +41,6 @@ module _ {A : Type 0} where
   each-listed P f i zero d h p k = p
   each-listed P f i (suc n) d h p zero = h i (omega arith)
   each-listed P f i (suc n) d h p (suc k) = each-listed P f (suc i) n d (λ j b. h j (omega arith)) p k
-
-  -- what holds of each element holds with one set
-  pub each-set : (P : A → Type 0) (l : List A) (k : ℕ) (x d : A) → ((i : ℕ) → P (getD l i d)) → P x
-      → (i : ℕ) → P (getD (set l k x) i d)
-  each-set P [] k x d h p i = h i
-  each-set P (y ∷ l) zero x d h p zero = p
-  each-set P (y ∷ l) zero x d h p (suc i) = h (suc i)
-  each-set P (y ∷ l) (suc k) x d h p zero = h 0
-  each-set P (y ∷ l) (suc k) x d h p (suc i) = each-set P l k x d (λ j. h (suc j)) p i
-
-  -- with one more behind
-  pub each-more : (P : A → Type 0) (l : List A) (x d : A) → ((i : ℕ) → P (getD l i d)) → P x
-      → (i : ℕ) → P (getD (l ++ (x ∷ [])) i d)
-  each-more P [] x d h p zero = p
-  each-more P [] x d h p (suc i) = h i
-  each-more P (y ∷ l) x d h p zero = h 0
-  each-more P (y ∷ l) x d h p (suc i) = each-more P l x d (λ j. h (suc j)) p i
-
-  -- of the first ones alone
-  pub each-take : (P : A → Type 0) (n : ℕ) (l : List A) (d : A) → ((i : ℕ) → P (getD l i d)) → P d
-      → (i : ℕ) → P (getD (take n l) i d)
-  each-take P zero l d h p i = p
-  each-take P (suc n) [] d h p i = p
-  each-take P (suc n) (x ∷ l) d h p zero = h 0
-  each-take P (suc n) (x ∷ l) d h p (suc i) = each-take P n l d (λ j. h (suc j)) p i
 
 -- ---- runs of pieces
 
@@ -145,29 +119,6 @@ pad-more h l s q n b e f =
     ∙ simp append-assoc
 
 -- ---- bytes as pieces
-
--- the length of a part
-pub part-length : (c : List ℕ) (at n : ℕ) → at + n ≤ length c → length (part c at n) ≡ n
-part-length c at n h = length-take-le n (drop at c) (omega (arith, length-drop at c))
-
-pub part-bytes : (c : List ℕ) (at n : ℕ) → Bytes c → Bytes (part c at n)
-part-bytes c at n h = each-take (λ (x : ℕ). x < 256) n (drop at c) 0 (λ k. rw getD-drop (h (at + k))) (omega arith)
-
--- a part as two
-pub part-add : (c : List ℕ) (at n m : ℕ) → part c at (n + m) ≡ part c at n ++ part c (at + n) m
-part-add c at n m = take-add n m (drop at c) ∙ ap (λ (r : List ℕ). part c at n ++ take m r) (drop-drop n at c)
-
--- a byte of a part, which is byte m of the whole
-pub part-byte : (c : List ℕ) (at n k m : ℕ) → k < n → at + k ≡ m → getD (part c at n) k 0 ≡ getD c m 0
-part-byte c at n k m h e = getD-take n (drop at c) k 0 h ∙ getD-drop at c k 0 ∙ ap (λ (j : ℕ). getD c j 0) e
-
--- a number of two bytes, and one of four
-pub part-be16 : (c : List ℕ) (at n k m : ℕ) → k + 1 < n → at + k ≡ m → be16At (part c at n) k ≡ be16At c m
-part-be16 c at n k m h e = omega (arith, part-byte c at n k m (omega arith) e, part-byte c at n (k + 1) (m + 1) h (omega arith))
-
-pub part-be32 : (c : List ℕ) (at n k m : ℕ) → k + 3 < n → at + k ≡ m → be32At (part c at n) k ≡ be32At c m
-part-be32 c at n k m h e =
-    omega (arith, part-byte c at n k m (omega arith) e, part-byte c at n (k + 1) (m + 1) (omega arith) (omega arith), part-byte c at n (k + 2) (m + 2) (omega arith) (omega arith), part-byte c at n (k + 3) (m + 3) h (omega arith))
 
 module _ {A : Type 0} (f : A → List ℕ) (g : ℕ → A) (c : List ℕ) (w b : ℕ) where
   -- pieces read one after the other

@@ -5,13 +5,14 @@ use mathlib.Core.Path.{_≡_, refl, _∙_}
 use mathlib.Core.List.{List, [], _∷_}
 use lib.ListN.{length, getD, length-append, length-set}
 use Rattle.octets.specs.Blocks.{flat}
-use Rattle.octets.proofs.Laws.{flat-length}
+use Rattle.octets.proofs.Blocks.{flat-length}
 use Rattle.paper.specs.Base.{Slot, Table, slot, waiting, closed, justOpened, noPpa, withSlot, withStream, withNumbers, withCounter, withPpa, remembering}
 use Rattle.paper.specs.declared.Stream.{Stream}
 use Rattle.paper.specs.declared.Ppa.{Ppa}
 use Rattle.table_image.specs.Layout.{joined, ppaBytes, streamBytes, waitingBytes, slotBytes, headerBytes, imageOf}
 use Rattle.table_image.specs.Shape.{Shaped}
-use Rattle.table_image.proofs.Joined.{each-set, each-more, joined-length, pad-length}
+use Rattle.table_image.proofs.Joined.{joined-length, pad-length}
+use Rattle.ledger.proofs.Lists.{each-set, each-more}
 
 -- ---- lengths
 
@@ -65,14 +66,14 @@ module _ (t : Table) (s : Shaped t) where
   }
 
   -- a stream with its open numbers
-  pub shaped-calls : (i : ℕ) (q : Stream) (w : List ℕ) → length w ≤ 8 → Shaped (withNumbers t i q w)
+  pub shaped-numbers : (i : ℕ) (q : Stream) (w : List ℕ) → length w ≤ 8 → Shaped (withNumbers t i q w)
   unfolding withNumbers
-  shaped-calls i q w h = shaped-slot i (record { isOpen = slot t i .isOpen; stream = q; waiting = w }) h
+  shaped-numbers i q w h = shaped-slot i (record { isOpen = slot t i .isOpen; stream = q; waiting = w }) h
 
   -- a stream alone
   pub shaped-stream : (i : ℕ) (q : Stream) → Shaped (withStream t i q)
   unfolding withStream
-  shaped-stream i q = shaped-calls i q (waiting t i) (s .eight i)
+  shaped-stream i q = shaped-numbers i q (waiting t i) (s .eight i)
 
   -- a stream closed
   pub shaped-closing : (i : ℕ) → Shaped (withSlot t i closed)

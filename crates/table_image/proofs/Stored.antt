@@ -54,10 +54,10 @@ module _ (t : Table) (s : Shaped t) (i : ℕ) (b : i < 16) where
       (stream-length (stream t i) ∙ sym (stream-length q))
 
   -- a stream with them
-  pub store-calls : (q : Stream) (w : List ℕ) → length w ≤ 8
+  pub store-numbers : (q : Stream) (w : List ℕ) → length w ≤ 8
       → paste (imageOf t) (slotBase i) (streamBytes q ++ waitingBytes w) ≡ imageOf (withNumbers t i q w)
   unfolding withNumbers
-  store-calls q w h =
+  store-numbers q w h =
       let x : Slot = record { isOpen = slot t i .isOpen; stream = q; waiting = w } in
       store-front x (slotBytes (slot t i)) (slotBytes x) [] refl (sym (append-nil (slotBytes (slot t i)))) (sym (append-nil (slotBytes x)))
       (slots-wide t s i ∙ sym (slot-length x h))

@@ -7,21 +7,19 @@ use mathlib.Core.List.{List, [], _∷_, _++_, append-assoc, append-nil}
 use lib.ListN.{length, getD, replicate}
 use lib.Seq.{take-all}
 use lib.Dec.{eqb}
-use Rattle.ledger.specs.Choice.{_⇒_∣_}
 use Rattle.ledger.specs.Tally.{oneIf}
 use Rattle.octets.specs.Numbers.{be32At, be32}
 use Rattle.octets.specs.Runs.{part}
 use Rattle.octets.specs.Blocks.{flat}
-use Rattle.octets.proofs.Laws.{be16At-be16, be32At-be32}
-use Rattle.paper.specs.Base.{numberOf, Slot, Table, slot, closed, noPpa, stateOf}
-use Rattle.paper.specs.declared.State.{State}
-use Rattle.paper.specs.declared.State.the-variants.{Unattached, Unbound, Idle, OutconPending, InconPending, DataXfer, UserResetPending, ProvResetPending}
+use Rattle.octets.proofs.Numbers.{be16At-be16, be32At-be32, be32At-part}
+use Rattle.paper.specs.Base.{Slot, Table, slot, closed, noPpa}
 use Rattle.paper.specs.declared.Stream.{Stream}
 use Rattle.paper.specs.declared.Ppa.{Ppa}
+use Rattle.paper.proofs.StateNumbers.{state-back}
 use Rattle.table_image.specs.Layout.{ppaBase, slotBase, listed, bit, ppaFrom, streamFrom, waitingFrom, maskIn, slotAt, ppaAt, tableOf, joined, maskOf, ppaBytes, streamBytes, waitingBytes, slotBytes, headerBytes, imageOf}
 use Rattle.table_image.specs.Shape.{Shaped}
 use Rattle.table_image.proofs.Bits.{mask-bit}
-use Rattle.table_image.proofs.Joined.{listed-at, listed-back, joined-at, part-be32}
+use Rattle.table_image.proofs.Joined.{listed-at, listed-back, joined-at}
 use Rattle.table_image.proofs.Shapes.{slots-wide, ppas-wide, header-length}
 use Rattle.table_image.proofs.Stored.{firstBytes}
 
@@ -36,17 +34,6 @@ flag-back : (b : Bool) → (eqb (oneIf b) 1 ≡ b) × (eqb (oneIf (not b)) 0 ≡
 flag-back true = (refl, refl)
 flag-back false = (refl, refl)
 
-state-back : (q : State) → stateOf (numberOf q) ≡ q
-unfolding stateOf _⇒_∣_
-state-back Unattached = refl
-state-back Unbound = refl
-state-back Idle = refl
-state-back OutconPending = refl
-state-back InconPending = refl
-state-back DataXfer = refl
-state-back UserResetPending = refl
-state-back ProvResetPending = refl
-
 stream-back : (s : Stream) (r : List ℕ) → streamFrom (streamBytes s ++ r) ≡ s
 unfolding streamFrom streamBytes
 stream-back s r =
@@ -57,10 +44,6 @@ stream-back s r =
       ppa = record { 0 = be32At-be32 (s .ppa .0) [] i };
       granted = s .granted;
     }
-
--- a number read out of its four bytes alone
-pub be32At-part : (c : List ℕ) (at : ℕ) → be32At (part c at 4) 0 ≡ be32At c at
-be32At-part c at = part-be32 c at 4 0 at (omega arith) (omega arith)
 
 -- numbers are pieces of four bytes
 pub flat-joined : (w : List ℕ) → flat w ≡ joined be32 w

@@ -9,14 +9,15 @@ use lib.Dec.{eqb, ltb, leb}
 use borrow.Author.Tests.{ltb-true, leb-true, eqb-true}
 use Rattle.ledger.specs.Choice.{both}
 use Rattle.ledger.specs.Tally.{allOf}
-use Rattle.ledger.proofs.Tallies.{both-of}
+use Rattle.ledger.proofs.Tallies.{both-of, all-within}
 use Rattle.octets.specs.Numbers.{be32At}
 use Rattle.octets.specs.Runs.{part, allZero}
+use Rattle.octets.proofs.Runs.{part-length}
 use Rattle.paper.specs.Base.{Slot, closed, noPpa}
 use Rattle.paper.specs.declared.Ppa.{Ppa}
 use Rattle.table_image.specs.Layout.{imageSize, ppaBase, slotBase, ppaFrom, waitingFrom, slotAt, ppaAt, tableOf, isState, tidySlot, slotParts, tidyPpas, areBytes, tidy}
 use Rattle.table_image.specs.Shape.{Shaped}
-use Rattle.table_image.proofs.Joined.{listed-length, listed-at, each-listed, part-length}
+use Rattle.table_image.proofs.Joined.{listed-length, listed-at, each-listed}
 
 -- ---- the tests' parts
 
@@ -35,11 +36,6 @@ pub record Tidy (img : List ℕ) : Type 0 where
   pub unused : allZero (part img (ppaBase (getD img 3 0)) (80 - getD img 3 0 * 10)) ≡ true
   pub slots : (i : ℕ) → i < 16 → TidySlot (part img (slotBase i) 42)
 
-all-at : {A : Type 0} (p : A → Bool) (l : List A) (k : ℕ) (d : A) → allOf p l ≡ true → k < length l → p (getD l k d) ≡ true
-all-at p [] k d h b = absurd (omega arith)
-all-at p (x ∷ l) zero d h b = both-of (p x) (allOf p l) h .0
-all-at p (x ∷ l) (suc k) d h b = all-at p l k d (both-of (p x) (allOf p l) h .1) (omega arith)
-
 bytes-below : (l : List ℕ) → areBytes l ≡ true → (k : ℕ) → getD l k 0 < 256
 bytes-below [] h k = omega arith
 bytes-below (x ∷ l) h zero = ltb-true x 256 (both-of (ltb x 256) (areBytes l) h .0)
@@ -49,7 +45,7 @@ slot-passes : (img : List ℕ) (i : ℕ) → i < 16 → allOf tidySlot (slotPart
 slot-passes img i b h =
     let f : ℕ → List ℕ = λ k. part img (slotBase k) 42 in
     let z : 0 + i ≡ i = omega arith in
-    ap tidySlot (sym (listed-at f 0 16 i [] b ∙ ap f z)) ∙ all-at tidySlot (slotParts img) i [] h b
+    ap tidySlot (sym (listed-at f 0 16 i [] b ∙ ap f z)) ∙ all-within tidySlot (slotParts img) i [] h b
 
 slot-parts : (c : List ℕ) → tidySlot c ≡ true → TidySlot c
 unfolding tidySlot
@@ -83,9 +79,9 @@ tidy-parts img h =
 
 -- ---- the table's shape
 
-mac-length : (img : List ℕ) (k : ℕ) → ppaBase k + 10 ≤ length img → length (ppaAt img k .mac) ≡ 6
+ppa-mac : (img : List ℕ) (k : ℕ) → ppaBase k + 10 ≤ length img → length (ppaAt img k .mac) ≡ 6
 unfolding ppaAt ppaFrom
-mac-length img k h = part-length (part img (ppaBase k) 10) 4 6 (omega (arith, part-length img (ppaBase k) 10 h))
+ppa-mac img k h = part-length (part img (ppaBase k) 10) 4 6 (omega (arith, part-length img (ppaBase k) 10 h))
 
 waiting-few : (img : List ℕ) (i : ℕ) → TidySlot (part img (slotBase i) 42) → length (slotAt img i .waiting) ≤ 8
 unfolding slotAt waitingFrom
@@ -102,7 +98,7 @@ shaped-table img h =
     record {
       sixteen = refl;
       few = omega (arith, listed-length (ppaAt img) 0 n, t .few);
-      macs = each-listed (λ (p : Ppa). length (p .mac) ≡ 6) (ppaAt img) 0 n noPpa (λ k b. mac-length img k (omega (arith, t .size, t .few))) refl;
+      macs = each-listed (λ (p : Ppa). length (p .mac) ≡ 6) (ppaAt img) 0 n noPpa (λ k b. ppa-mac img k (omega (arith, t .size, t .few))) refl;
       eight =
           each-listed (λ (x : Slot). length (x .waiting) ≤ 8) (slotAt img) 0 16 closed (λ i b. waiting-few img i (t .slots i (omega arith))) (omega arith);
     }

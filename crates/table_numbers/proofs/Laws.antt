@@ -2,26 +2,23 @@
 use Prim.Native.Nat.{ℕ, suc, _+_, _*_, _≤_, _<_, _-_}
 use native.Mathlib.Omega.{arith}
 use native.Mathlib.Numerals.{add-one}
-use mathlib.Core.Path.{_≡_, refl, sym, ap, ap₂, _∙_}
-use mathlib.Core.Bool.{Bool, true, false}
+use mathlib.Core.Path.{_≡_, sym, ap, ap₂, _∙_}
 use mathlib.Core.List.{List, [], _∷_, _++_, append-assoc, append-nil}
 use lib.ListN.{length, getD, take, drop, set, replicate, length-append, length-drop, length-replicate, replicate-append-replicate}
 use lib.Seq.{take-at, drop-at, take-all, drop-cons, split-at, length-take-le}
-use lib.Dec.{eqb, ltb}
-use borrow.Author.Tests.{le-ltb, ltb-false}
-use Rattle.ledger.specs.Choice.{pick}
-use Rattle.ledger.specs.Tally.{oneIf, occ, has, without, firstOf}
 use Rattle.octets.specs.Numbers.{be32At, be32}
 use Rattle.octets.specs.Runs.{part, paste}
 use Rattle.octets.specs.Blocks.{flat}
-use Rattle.octets.proofs.Laws.{paste-join, flat-length}
+use Rattle.octets.proofs.Runs.{part-length, part-add, paste-join}
+use Rattle.octets.proofs.Numbers.{part-be32}
+use Rattle.octets.proofs.Blocks.{flat-length, flat-append}
 use Rattle.paper.specs.Base.{Slot, Table, slot, stream, waiting, withNumbers}
 use Rattle.paper.specs.declared.Stream.{Stream}
 use Rattle.table_image.specs.Layout.{slotBase, listed, waitingFrom, slotAt, tableOf, padTo, joined, streamBytes, waitingBytes, slotBytes, imageOf}
 use Rattle.table_image.specs.Lent.{Lent}
-use Rattle.table_image.proofs.Joined.{listed-length, listed-at, pad-length, pad-more, part-length, part-add, part-be32}
+use Rattle.table_image.proofs.Joined.{listed-length, listed-at, pad-length, pad-more}
 use Rattle.table_image.proofs.Shapes.{stream-length}
-use Rattle.table_image.proofs.Stored.{store-calls}
+use Rattle.table_image.proofs.Stored.{store-numbers}
 use Rattle.table_image.proofs.TableBack.{slot-at, slot-part}
 
 -- ---- in an image
@@ -57,10 +54,10 @@ module _ (img : List ℕ) (l : Lent img) (i : ℕ) (b : i < 16) where
       ∙ drop-at s (waitingBytes (waiting t i)) 9 (stream-length (stream t i))
 
   -- a stream and its open numbers are stored
-  pub calls-stored : (s : Stream) (w : List ℕ) → length w ≤ 8
+  pub numbers-stored : (s : Stream) (w : List ℕ) → length w ≤ 8
       → paste img (slotBase i) (streamBytes s ++ waitingBytes w) ≡ imageOf (withNumbers (tableOf img) i s w)
-  calls-stored s w h =
-      ap (λ (r : List ℕ). paste r (slotBase i) (streamBytes s ++ waitingBytes w)) (sym (l .same)) ∙ store-calls (tableOf img) (l .shaped) i b s w h
+  numbers-stored s w h =
+      ap (λ (r : List ℕ). paste r (slotBase i) (streamBytes s ++ waitingBytes w)) (sym (l .same)) ∙ store-numbers (tableOf img) (l .shaped) i b s w h
 
 -- ---- in a row
 
@@ -76,11 +73,6 @@ copied-on f d l i h b n m k e =
     ∙ ap (λ (r : List ℕ). take n b ++ r) (sym j)
 
 -- ---- one more, one less
-
--- the bytes of two lists, one behind the other
-flat-append : (l m : List ℕ) → flat (l ++ m) ≡ flat l ++ flat m
-flat-append [] m = refl
-flat-append (x ∷ l) m = ap (λ (r : List ℕ). be32 x ++ r) (flat-append l m)
 
 -- count and numbers take 33 bytes
 pub waiting-length : (w : List ℕ) → length w ≤ 8 → length (waitingBytes w) ≡ 33
@@ -135,28 +127,3 @@ less-bytes w k h g =
     ap₂ (λ (b r : List ℕ). set (paste (paste room 0 b) at r) 0 (length w - 1)) p q
     ∙ ap (λ (r : List ℕ). set r 0 (length w - 1)) j
     ∙ ap₂ (λ (i : ℕ) (r : List ℕ). i ∷ r) c v
-
--- ---- a number taken out
-
-module _ (n : ℕ) where
-  -- where it is not there, none is taken out
-  pub without-none : (l : List ℕ) → has n l ≡ false → without n l ≡ l
-  without-none [] h = refl
-  without-none (x ∷ l) h = go (eqb n x) h (without-none l)
-    where
-      go : (b : Bool) → ltb 0 (oneIf b + occ n l) ≡ false → (has n l ≡ false → without n l ≡ l) → pick b l (x ∷ without n l) ≡ x ∷ l
-      go true h r = absurd (omega (arith, ltb-false 0 (1 + occ n l) h))
-      go false h r = ap (λ (m : List ℕ). x ∷ m) (r (le-ltb 0 (occ n l) (omega (arith, ltb-false 0 (0 + occ n l) h))))
-
-  -- else the one at its first place is
-  pub without-first : (l : List ℕ) → firstOf (eqb n) l < length l
-      → without n l ≡ take (firstOf (eqb n) l) l ++ drop (suc (firstOf (eqb n) l)) l
-  without-first [] h = absurd (omega arith)
-  without-first (x ∷ l) h = go (eqb n x) h (without-first l)
-    where
-      go : (b : Bool) → pick b 0 (suc (firstOf (eqb n) l)) < suc (length l)
-          → (firstOf (eqb n) l < length l → without n l ≡ take (firstOf (eqb n) l) l ++ drop (suc (firstOf (eqb n) l)) l)
-          → pick b l (x ∷ without n l)
-          ≡ take (pick b 0 (suc (firstOf (eqb n) l))) (x ∷ l) ++ drop (suc (pick b 0 (suc (firstOf (eqb n) l)))) (x ∷ l)
-      go true h r = refl
-      go false h r = ap (λ (m : List ℕ). x ∷ m) (r (omega arith))

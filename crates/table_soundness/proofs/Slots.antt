@@ -1,21 +1,23 @@
 -- What the bytes of an image tell of its table: states, PPA numbers, open and closed streams.
 use Prim.Native.Nat.{ℕ, zero, suc, _+_, _*_, _≤_, _<_}
 use mathlib.Core.Path.{_≡_, refl, sym, ap, _∙_}
-use mathlib.Core.Bool.{Bool, true, false, not}
+use mathlib.Core.Bool.{Bool, true, not}
 use mathlib.Core.List.{List, [], _++_, append-nil}
 use lib.ListN.{length, getD, take, drop, replicate, length-map}
 use lib.Seq.{take-take}
 use lib.Dec.{eqb, ltb, leb, eqb·suc-zero}
 use native.Mathlib.Omega.{arith}
 use borrow.Author.Tests.{eqb-true, eq-eqb, ne-eqb, lt-ltb, le-leb}
-use Rattle.ledger.specs.Choice.{both, pick}
+use Rattle.ledger.specs.Choice.{both}
 use Rattle.ledger.specs.Tally.{oneIf, occ, allOf}
-use Rattle.ledger.proofs.Tallies.{both-of, to-both, chosen, all-at, empty, both-true, nth}
+use Rattle.ledger.proofs.Tallies.{both-of, to-both, chosen, both-true, both-assoc, both-swap, same-test, all-both}
+use Rattle.ledger.proofs.Lists.{map-at}
 use Rattle.octets.specs.Numbers.{be32At}
 use Rattle.octets.specs.Runs.{part, allZero}
-use Rattle.octets.proofs.Laws.{be32At-be32, zero-replicate}
-use Rattle.paper.specs.Base.{numberOf, isIn, noStream, Slot, closed, Table, slot, ppaNumbers, noPpa, stateOf, everyState}
-use Rattle.paper.specs.Sound.{every, unbound, holdsNothing, openTests, soundSlot, isSingle, isAlone, remembersOpenings, soundTests, sound}
+use Rattle.octets.proofs.Numbers.{be32At-be32, be32At-part}
+use Rattle.octets.proofs.Runs.{zero-replicate}
+use Rattle.paper.specs.Base.{numberOf, Slot, closed, Table, slot, ppaNumbers, noPpa, stateOf, everyState}
+use Rattle.paper.specs.Sound.{every, holdsNothing, openTests, soundSlot, isSingle, isAlone, remembersOpenings, sound}
 use Rattle.paper.specs.Correlations.{occurrences}
 use Rattle.paper.specs.declared.State.{State}
 use Rattle.paper.specs.declared.State.the-variants.{Unbound, Idle, OutconPending, InconPending, DataXfer, UserResetPending, ProvResetPending}
@@ -25,12 +27,11 @@ use Rattle.table_image.specs.Layout.{ppaBase, slotBase, slotParts, ppaFrom, ppa
 use Rattle.table_image.specs.Lent.{Lent}
 use Rattle.table_image.proofs.Joined.{listed-at, joined-at}
 use Rattle.table_image.proofs.Shapes.{slots-wide, header-length}
-use Rattle.table_image.proofs.TableBack.{be32At-part}
 use Rattle.table_image.proofs.Lending.{lent-tidy}
 use Rattle.table_lookup.proofs.Laws.{ppa-place}
-use Rattle.table_soundness.proofs.Laws.{both-assoc, both-swap, same-test, map-at, all-both, occ-joined, all-joined}
+use Rattle.table_soundness.proofs.Laws.{occ-joined, all-joined}
 use Rattle.table_soundness.specs.Groups.{isAttachedRight, isBoundRight, isCountRight, openNumbers, isSingleIn, areSingle, isStreamSound}
-use Rattle.paper.proofs.StateNumbers.{in-zero}
+use Rattle.paper.proofs.SoundTests.{holds-nothing}
 
 -- ---- states
 
@@ -86,35 +87,11 @@ unfolding isAttachedRight isBoundRight isCountRight
 grouped ppas x = simp (both-assoc, both-true)
 
 -- a count of none, of any granted
-pub none-open : (n g : ℕ) → eqb n 0 ≡ both (not (ltb 0 n)) (leb n g)
-none-open zero g = sym (le-leb 0 g (omega arith))
-none-open (suc n) g = rw (eqb·suc-zero n, lt-ltb 0 (suc n) (omega arith))
+pub none-waits : (n g : ℕ) → eqb n 0 ≡ both (not (ltb 0 n)) (leb n g)
+none-waits zero g = sym (le-leb 0 g (omega arith))
+none-waits (suc n) g = rw (eqb·suc-zero n, lt-ltb 0 (suc n) (omega arith))
 
 -- ---- closed streams
-
-abbrev empty-slot : Bool → Slot
-empty-slot b = record { isOpen = b; stream = noStream; waiting = [] }
-
--- a stream that passes the test is one that holds nothing
-holds-nothing : (x : Slot) → holdsNothing x ≡ true → x ≡ empty-slot (x .isOpen)
-unfolding holdsNothing
-holds-nothing x h =
-    let s : Stream = x .stream in
-    let a = both-of (isIn 0 s) (both (eqb (s .ppa .0) 0) (both (every (unbound s)) (eqb (length (x .waiting)) 0))) h in
-    let b = both-of (eqb (s .ppa .0) 0) (both (every (unbound s)) (eqb (length (x .waiting)) 0)) (a .1) in
-    let c = both-of (every (unbound s)) (eqb (length (x .waiting)) 0) (b .1) in
-    let u = nth (unbound s) (c .0) in
-    λ d. record {
-      isOpen = x .isOpen;
-      stream = record {
-        state = in-zero (s .state) (eqb-true (numberOf (s .state)) 0 (a .0)) d;
-        mode = eqb-true (s .mode) 0 (u 0) d;
-        sap = eqb-true (s .sap) 0 (u 1) d;
-        ppa = record { 0 = eqb-true (s .ppa .0) 0 (b .0) d };
-        granted = eqb-true (s .granted) 0 (u 2) d;
-      };
-      waiting = empty (x .waiting) (eqb-true (length (x .waiting)) 0 (c .1)) d;
-    }
 
 -- its bytes up to the count of open numbers are zero, and no other's
 zeros : (x : Slot) → allZero (take 10 (slotBytes x)) ≡ holdsNothing x
@@ -163,13 +140,6 @@ sound-groups t h =
     rw (le-leb (length (t .ppas)) 8 h, both-true (remembersOpenings t), ← singles t, all-both own alone (t .slots), both-assoc (allOf own (t .slots)) (allOf alone (t .slots)), both-swap (allOf alone (t .slots)) (allOf single (t .slots)))
 
 -- ---- what a sound table and a sound image give
-
-pub shut : (t : Table) → sound t ≡ true → (i : ℕ) → slot t i .isOpen ≡ false → slot t i ≡ closed
-unfolding sound soundSlot holdsNothing
-shut t h i o =
-    let x : Slot = slot t i in
-    let e : soundSlot (ppaNumbers t) x ≡ true = all-at (soundSlot (ppaNumbers t)) closed refl (t .slots) (nth (soundTests t) h 2) i in
-    holds-nothing x (ap (λ (b : Bool). pick b (every (openTests (ppaNumbers t) x)) (holdsNothing x)) (sym o) ∙ e) ∙ ap empty-slot o
 
 pub sound-lent : (img : List ℕ) → soundImage img ≡ true → Lent img
 unfolding soundImage

@@ -5,12 +5,11 @@ use native.Mathlib.Numerals.{add-one}
 use mathlib.Core.Path.{_≡_, refl, sym, ap, _∙_}
 use mathlib.Core.List.{List, [], _∷_, _++_, append-assoc, append-nil}
 use lib.Dec.{ltb}
-use lib.ListN.{length, getD, set, take, drop, length-set, length-append, drop-of-length-le, take-append-drop}
-use lib.Seq.{take-suc, drop-cons, drop-set-lt, getD-set-same}
+use lib.ListN.{length, getD, set, take, drop, length-append, drop-of-length-le}
+use lib.Seq.{take-suc}
 use borrow.Author.Tests.{lt-ltb, le-ltb}
 use Rattle.ledger.proofs.Tallies.{picked}
-use Rattle.octets.specs.Runs.{paste}
-use Rattle.octets.proofs.Laws.{paste-join}
+use Rattle.ledger.proofs.Lists.{set-begins}
 use Rattle.text.specs.Digits.{digit, digits, decimal, hex}
 
 -- ---- decimal
@@ -27,13 +26,6 @@ tenth zero n a h = omega arith
 tenth (suc k) n a h =
     let e : suc k - 1 ≡ k = omega arith in
     rw e (omega (arith, h))
-
--- what stands from a byte on that was just set
-set-begins : (l : List ℕ) (m v : ℕ) → m < length l → drop m (set l m v) ≡ v ∷ drop (suc m) l
-set-begins l m v h =
-    drop-cons (set l m v) m 0 (simp length-set h)
-    ∙ ap (λ (x : ℕ). x ∷ drop (suc m) (set l m v)) (getD-set-same l m v 0 h)
-    ∙ ap (λ (r : List ℕ). v ∷ r) (drop-set-lt (suc m) l m v (omega arith))
 
 -- none stand there at first
 pub digits-none : (n : ℕ) (l : List ℕ) → length l ≤ 20 → digits 20 n ++ drop 20 l ≡ decimal n
@@ -86,21 +78,3 @@ pub hex-next : (l : List ℕ) (i : ℕ) → i < length l → hex (take (i + 1) l
 hex-next l i h = ap (λ (k : ℕ). hex (take k l)) (add-one i) ∙ ap hex (take-suc l i 0 h) ∙ hex-append (take i l) (getD l i 0)
 
 -- ---- one piece of text behind another
-
-pub then : {y z : List ℕ} {r : ℕ} (x : List ℕ) (at : ℕ) (p q : List ℕ) → at ≤ length x → y ≡ paste x at p → r ≡ at + length p → z ≡ paste y r q → z ≡ paste x at (p ++ q)
-then x at p q h a b c = c ∙ rw (a, b) (sym (paste-join x at p q h))
-
--- with the places behind them
-pub after : {y z : List ℕ} {r e : ℕ} (x : List ℕ) (at : ℕ) (p q : List ℕ) → at ≤ length x
-    → (r ≡ at + length p) × (y ≡ paste x at p)
-    → (e ≡ r + length q) × (z ≡ paste y r q)
-    → (e ≡ at + length (p ++ q)) × (z ≡ paste x at (p ++ q))
-after x at p q h a b = (omega (arith, a .0, b .0, length-append p q), then x at p q h (a .1) (a .0) (b .1))
-
--- nothing written
-pub paste-nothing : (x : List ℕ) (at : ℕ) → paste x at [] ≡ x
-paste-nothing x at =
-    let e : at + 0 ≡ at = omega arith in
-    ap (λ (l : List ℕ). l ++ drop (at + 0) x) (append-nil (take at x))
-    ∙ ap (λ (k : ℕ). take at x ++ drop k x) e
-    ∙ take-append-drop at x

@@ -5,11 +5,12 @@ use mathlib.Core.Path.{_≡_}
 use mathlib.Core.Bool.{Bool, true, false, not}
 use mathlib.Core.List.{List}
 use lib.Dec.{eqb, ltb}
-use lib.ListN.{take}
-use Rattle.ledger.specs.Choice.{both, either}
+use lib.ListN.{length, take}
+use Rattle.ledger.specs.Choice.{both, either, _⇒_∣_}
 use Rattle.ledger.specs.Tally.{oneIf}
 use Rattle.octets.specs.Runs.{part}
 use Rattle.paper.specs.RecordsIn.{recordSize}
+use Rattle.call_outcomes.specs.Leaving.{Left, callMade}
 use Rattle.turns.specs.declared.Turn.{Turn}
 
 -- Nothing is read and nothing counted.
@@ -30,6 +31,10 @@ abbrev pub unread : List ℕ → Turn → List ℕ
 unread input t = part input (t .start) (t .end - t .start)
 
 -- ---- a turn, once there is input and room for output
+
+-- The call is lent what is not read yet.
+abbrev pub callOn : List ℕ → List ℕ → Turn → Left
+callOn table input t = callMade table (unread input t)
 
 -- A record may be cut, and more bytes may come.
 abbrev pub waits : Turn → Bool
@@ -63,6 +68,14 @@ afterCall input filled refused t = record {
   going = ltb 0 (recordSize (unread input t));
   failed = t .failed;
 }
+
+-- A turn with a call that prints this text.
+unfoldable pub turnAfter : List ℕ → List ℕ → Bool → Turn → Turn
+turnAfter input text refused t = waits t ⇒ t ∣ isOver t ⇒ stopping t ∣ afterCall input (t .filled + length text) refused t
+
+-- What only a call changes stays as it was in a turn without one: the table, the output, what is kept of the calls.
+unfoldable pub afterTurn : Turn → List ℕ → List ℕ → List ℕ
+afterTurn t before after = waits t ⇒ before ∣ isOver t ⇒ before ∣ after
 
 -- ---- reading on and writing out
 

@@ -96,7 +96,7 @@ fn put_message(room: &mut [u8], letter: u8, s: u8, fields: &[u32], tail: &[u8]) 
 }
 
 // The stream's state is one in which INFO_ACK tells its binding.
-fn tells_binding(q: Stream) -> bool
+fn is_told(q: Stream) -> bool
     ensures { λ r. ⌜ r ≡ isAmong toldStates q ⌝ }
 {
     let state = q.state;
@@ -162,7 +162,7 @@ fn put_info(room: &mut [u8], s: u8, q: Stream, tail: &[u8]) -> usize
 {
     let state = q.state;
     let number = paper::number_of(state);
-    if !tells_binding(q) {
+    if !is_told(q) {
         return put_info_fields(room, s, number, 0, 0, 3, 0, tail);
     }
     let size = sap_length(q.sap);
@@ -230,7 +230,7 @@ fn put_bound_address(room: &mut [u8], q: Stream, mac: [u8; 6]) -> usize
     requires { ⌜ 8 ≤ length (now room) ⌝ }
     ensures { λ n. ⌜ (n ≡ length (pick (isAmong toldStates q) (addressOf mac (q .sap)) [])) × (n ≤ 8) × (now (room .exit) ≡ over (pick (isAmong toldStates q) (addressOf mac (q .sap)) []) (now (room .entry))) ⌝ }
 {
-    if tells_binding(q) {
+    if is_told(q) {
         return put_address(room, mac, q.sap);
     }
     0

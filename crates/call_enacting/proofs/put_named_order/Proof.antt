@@ -5,11 +5,11 @@ use denote.Ref.{now}
 use Rattle.paper.specs.RecordsOut.{order}
 use Rattle.paper.specs.Effects.{namedBy, behindOrder}
 use Rattle.paper.specs.declared.LineOrder.the-variants as lineOrder
-use Rattle.octets.proofs.Laws.{part-most}
 use Rattle.call_enacting.proofs.Laws.{no-address, same-order}
 use borrow.Author.Needs.{needs}
 use Rattle.call_enacting.proofs.put_named_order.Statement.{statement}
 use Rattle.call_enacting.proofs.put_named_order.Tie as tie
+use Rattle.octets.proofs.Runs.{part-most}
 
 put-connect-requires : tie.Need-put-connect-requires
 put-connect-requires c κs =

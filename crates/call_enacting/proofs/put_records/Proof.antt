@@ -4,15 +4,15 @@ use mathlib.Core.Path.{sym}
 use mathlib.Core.List.{_++_}
 use denote.Ref.{now}
 use lib.ListN.{length-append}
-use Rattle.octets.proofs.Laws.{over-next}
 use Rattle.paper.specs.Base.{slot, macAt}
 use Rattle.paper.specs.RecordsOut.{allBytes, flushIf}
 use Rattle.paper.specs.Effects.{ordersIn, upsIn, told}
+use Rattle.paper.proofs.RecordsOut.{bytes-in-order}
 use Rattle.table_image.specs.Layout.{tableOf}
-use Rattle.call_outcomes.proofs.Laws.{all-in-order}
 use borrow.Author.Needs.{needs}
 use Rattle.call_enacting.proofs.put_records.Statement.{statement}
 use Rattle.call_enacting.proofs.put_records.Tie as tie
+use Rattle.octets.proofs.Runs.{over-next}
 
 put-replies-requires : tie.Need-put-replies-requires
 put-replies-requires c κs = let a = c .before .before .before .before .before .before .before .before .before .before .before .before in (a .pre .0, a .pre .1, a .pre .2, search needs)
@@ -29,7 +29,7 @@ returns c =
     let one = allBytes (ordersIn (a .i) (a .c) (slot t (a .i)) (now (a .m)) (a .e .order)) in
     let two = allBytes (flushIf (a .e .flush) (a .i)) in
     let three = allBytes (upsIn (a .i) (macAt t (a .i)) (now (a .m)) (a .e .up)) in
-    rw all-in-order (
+    rw bytes-in-order (
       omega (arith, o .ensures .0, f .ensures .1, u .ensures .0),
       (
         omega (arith, length-append (one ++ two) three, length-append one two, w .0, f .ensures .0, u .ensures .1 .0),

@@ -5,9 +5,10 @@ use Rattle.paper.specs.Base.{macAt}
 use Rattle.paper.specs.RecordsOut.{up}
 use Rattle.paper.specs.Effects.{behindReply, upsIn}
 use Rattle.table_image.specs.Layout.{tableOf}
-use Rattle.wire_replies.proofs.Laws.{up-length}
-use Rattle.call_outcomes.proofs.Laws.{mac-length, one-long, one-over}
+use Rattle.call_outcomes.proofs.Laws.{mac-length}
 use Rattle.paper.proofs.Tails.{tail-most}
+use Rattle.paper.proofs.RecordsOut.{one-long, one-over}
+use Rattle.paper.proofs.Sizes.{up-length}
 use borrow.Author.Needs.{needs}
 use Rattle.call_enacting.proofs.put_replies.Statement.{statement}
 use Rattle.call_enacting.proofs.put_replies.Tie as tie

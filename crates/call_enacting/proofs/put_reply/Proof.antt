@@ -6,6 +6,7 @@ use mathlib.Core.List.{List}
 use lib.ListN.{length, replicate}
 use denote.Ref.{now}
 use Rattle.octets.specs.Runs.{part, over}
+use Rattle.octets.proofs.Runs.{over-begins}
 use Rattle.paper.specs.Base.{macAt}
 use Rattle.paper.specs.RecordsOut.{up, bytesOf}
 use Rattle.paper.specs.Effects.{behindReply}
@@ -14,7 +15,7 @@ use Rattle.paper.proofs.Tails.{tail-most}
 use Rattle.table_image.specs.Layout.{tableOf}
 use Rattle.call_outcomes.proofs.Laws.{mac-length}
 use Rattle.call_enacting.specs.Behind.{ownBehind, behindBy}
-use Rattle.call_enacting.proofs.Laws.{behind-reply, over-begins}
+use Rattle.call_enacting.proofs.Laws.{behind-reply}
 use borrow.Author.Needs.{needs}
 use Rattle.call_enacting.proofs.put_reply.Statement.{statement}
 use Rattle.call_enacting.proofs.put_reply.Tie as tie

@@ -4,15 +4,16 @@ use mathlib.Core.Path.{ap, _∙_}
 use mathlib.Core.List.{List}
 use denote.Ref.{now}
 use Rattle.table_image.specs.Layout.{tableOf}
-use Rattle.table_image.proofs.Joined.{part-length}
 use Rattle.paper.proofs.Records.{adds-long}
-use Rattle.table_soundness.proofs.Slots.{shut, sound-lent}
+use Rattle.table_soundness.proofs.Slots.{sound-lent}
 use Rattle.call_outcomes.specs.Leaving.{leaving}
 use Rattle.paper.specs.Openings.{addsPpa}
+use Rattle.paper.proofs.SoundTests.{shut}
 use Rattle.call_engine.proofs.Laws.{parts, to-stream}
 use borrow.Author.Needs.{needs}
 use Rattle.call_engine.proofs.serve.Statement.{statement}
 use Rattle.call_engine.proofs.serve.Tie as tie
+use Rattle.octets.proofs.Runs.{part-length}
 
 add-ppa-requires : tie.Need-add-ppa-requires
 add-ppa-requires c κs =

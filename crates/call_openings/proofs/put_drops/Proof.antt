@@ -8,7 +8,7 @@ use lib.ListN.{length, take}
 use lib.Seq.{take-all, length-take-le}
 use borrow.Author.Needs.{needs}
 use Rattle.octets.specs.Runs.{over}
-use Rattle.octets.proofs.Laws.{over-next}
+use Rattle.octets.proofs.Runs.{over-next}
 use Rattle.paper.specs.Base.{waiting}
 use Rattle.paper.specs.RecordsOut.{order, bytesOf, allBytes}
 use Rattle.paper.specs.Openings.{goodbye}

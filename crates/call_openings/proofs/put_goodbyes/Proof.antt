@@ -10,7 +10,7 @@ use Rattle.ledger.specs.Choice.{_⇒_∣_}
 use Rattle.ledger.specs.Tally.{has}
 use Rattle.paper.specs.Base.{numberOf, callingStates}
 use Rattle.paper.specs.Openings.{goodbye, goodbyes}
-use Rattle.call_outcomes.proofs.Laws.{one-long, one-over}
+use Rattle.paper.proofs.RecordsOut.{one-long, one-over}
 use Rattle.call_openings.proofs.put_goodbyes.Statement.{statement}
 use Rattle.call_openings.proofs.put_goodbyes.Tie as tie
 

@@ -3,17 +3,17 @@ use native.Mathlib.Omega.{arith}
 use mathlib.Core.Path.{refl, sym, _∙_}
 use borrow.Author.Needs.{needs}
 use Rattle.ledger.specs.Choice.{_⇒_∣_}
+use Rattle.turns.specs.Turns.{turnAfter, afterTurn}
 use Rattle.turns.proofs.Laws.{not-over}
-use Rattle.fates.specs.Turns.{turnAfter, tableAfter, registerAfter, outputAfter}
 use Rattle.fates.proofs.turned.Statement.{statement}
 use Rattle.fates.proofs.turned.Tie as tie
 
 returns : tie.Need-returns
-unfolding turnAfter tableAfter registerAfter outputAfter _⇒_∣_
+unfolding turnAfter afterTurn _⇒_∣_
 returns c = let start = c .before .before .before .before .before .before in rw (← c .before .waits .ensures, c .if1 .taken) ((refl, search needs), ((start .pre .0, refl, refl), refl))
 
 returns-2 : tie.Need-returns-2
-unfolding turnAfter tableAfter registerAfter outputAfter _⇒_∣_
+unfolding turnAfter afterTurn _⇒_∣_
 returns-2 c =
     let start = c .before .before .before .before .before .before .before .before .before in
     let w = c .before .before .before in
@@ -26,7 +26,7 @@ called-requires c κs =
     (start .pre .0, search needs, search needs, search needs, search needs, omega (arith, start .good .1 .1 .1 .1 .0 .1 .1 .1 .1 .1 .1 .0, not-over (start .args .t) (sym (o .before .is-over .ensures) ∙ o .if2 .left)))
 
 returns-3 : tie.Need-returns-3
-unfolding turnAfter tableAfter registerAfter outputAfter _⇒_∣_
+unfolding turnAfter afterTurn _⇒_∣_
 returns-3 c =
     let o = c .before .before .before .before .before .before .before .before .before .before in
     let w = c .before .before .before .before .before .before .before .before .before .before .before .before in

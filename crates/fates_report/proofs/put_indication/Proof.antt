@@ -5,11 +5,11 @@ use mathlib.Core.List.{[], _∷_, _++_}
 use denote.Ref.{now}
 use lib.ListN.{length}
 use borrow.Author.Needs.{needs}
-use Rattle.text.proofs.Laws.{after}
 use Rattle.fates_report.specs.Report.{wordCall, spacedNumber, numbers}
-use Rattle.fates_report.proofs.Laws.{call-most}
+use Rattle.fates_report.proofs.Laws.{indication-most}
 use Rattle.fates_report.proofs.put_indication.Statement.{statement}
 use Rattle.fates_report.proofs.put_indication.Tie as tie
+use Rattle.octets.proofs.Runs.{paste-after}
 
 returns : tie.Need-returns
 returns c =
@@ -21,18 +21,18 @@ returns c =
     let toNumber = toOpening ++ numbers 2 (a .c) l in
     let toFate = toNumber ++ now (a .word) in
     let all =
-    after (now (a .out)) (a .at) toFate (10 ∷ []) fits
-    (after (now (a .out)) (a .at) toNumber (now (a .word)) fits
-    (after (now (a .out)) (a .at) toOpening (numbers 2 (a .c) l) fits
-    (after (now (a .out)) (a .at) toStream (numbers 1 (a .i * 24) l) fits
-    (after (now (a .out)) (a .at) wordCall (spacedNumber (a .i)) fits
+    paste-after (now (a .out)) (a .at) toFate (10 ∷ []) fits
+    (paste-after (now (a .out)) (a .at) toNumber (now (a .word)) fits
+    (paste-after (now (a .out)) (a .at) toOpening (numbers 2 (a .c) l) fits
+    (paste-after (now (a .out)) (a .at) toStream (numbers 1 (a .i * 24) l) fits
+    (paste-after (now (a .out)) (a .at) wordCall (spacedNumber (a .i)) fits
     (c .before .before .before .before .before .before .before .before .before .before .before .before .before .before .before .before .before .before .before .before .before .before .before .put-word .ensures)
     (c .before .before .before .before .before .before .before .before .before .before .before .before .before .before .before .before .before .before .before .put-spaced .ensures .0))
     (c .before .before .before .before .before .before .before .before .before .before .before .before .before .before .before .put-numbers .ensures .0))
     (c .before .before .before .before .before .before .before .before .before .before .before .put-numbers2 .ensures .0))
     (c .before .before .before .before .before .before .before .put-word2 .ensures))
     (c .before .before .put-word3 .ensures) in
-    (all, omega (arith, all .0, call-most (a .i) (a .c) (now (a .word)) l (c .before .before .before .before .before .before .before .before .before .before .before .before .before .before .before .before .before .before .before .before .before .before .before .before .before .before .before .before .before .pre .3)))
+    (all, omega (arith, all .0, indication-most (a .i) (a .c) (now (a .word)) l (c .before .before .before .before .before .before .before .before .before .before .before .before .before .before .before .before .before .before .before .before .before .before .before .before .before .before .before .before .before .pre .3)))
 
 pub put-indication-spec : {M : Type 1} → statement M
 put-indication-spec =

@@ -4,11 +4,11 @@ use mathlib.Core.Path.{_≡_}
 use mathlib.Core.List.{[], _∷_, _++_}
 use denote.Ref.{now}
 use borrow.Author.Needs.{needs}
-use Rattle.text.proofs.Laws.{after}
 use Rattle.fates_register.specs.Register.{openOn}
 use Rattle.fates_report.specs.Report.{wordOpening, spacedNumber, numbers}
 use Rattle.fates_report.proofs.put_opening.Statement.{statement}
 use Rattle.fates_report.proofs.put_opening.Tie as tie
+use Rattle.octets.proofs.Runs.{paste-after}
 
 returns : tie.Need-returns
 returns c =
@@ -20,10 +20,10 @@ returns c =
     let toOpen = toEnds ++ spacedNumber (o .result) in
     let same : o .result ≡ openOn (a .i) l = o .ensures .0 in
     rw (← same) (
-      after (now (a .out)) (a .at) toOpen (10 ∷ []) (search needs)
-          (after (now (a .out)) (a .at) toEnds (spacedNumber (o .result)) (search needs)
-          (after (now (a .out)) (a .at) toStream (numbers 6 (a .i * 24) l) (search needs)
-          (after (now (a .out)) (a .at) wordOpening (spacedNumber (a .i)) (search needs)
+      paste-after (now (a .out)) (a .at) toOpen (10 ∷ []) (search needs)
+          (paste-after (now (a .out)) (a .at) toEnds (spacedNumber (o .result)) (search needs)
+          (paste-after (now (a .out)) (a .at) toStream (numbers 6 (a .i * 24) l) (search needs)
+          (paste-after (now (a .out)) (a .at) wordOpening (spacedNumber (a .i)) (search needs)
           (c .before .before .before .before .before .before .before .before .before .before .before .before .before .before .before .before .before .before .before .before .put-word .ensures)
           (c .before .before .before .before .before .before .before .before .before .before .before .before .before .before .before .before .put-spaced .ensures .0))
           (c .before .before .before .before .before .before .before .before .before .before .before .before .put-numbers .ensures .0))

@@ -4,14 +4,15 @@ use mathlib.Core.List.{[], _∷_}
 use denote.Ref.{now}
 use borrow.Author.Needs.{needs}
 use Rattle.text.specs.Digits.{decimal}
-use Rattle.text.proofs.Laws.{decimal-most, after}
+use Rattle.text.proofs.Laws.{decimal-most}
 use Rattle.fates_report.proofs.put_spaced.Statement.{statement}
 use Rattle.fates_report.proofs.put_spaced.Tie as tie
+use Rattle.octets.proofs.Runs.{paste-after}
 
 returns : tie.Need-returns
 returns c =
     let a = c .before .before .before .before .before .before .before .before .before .before .args in
-    let all = after (now (a .out)) (a .at) (32 ∷ []) (decimal (a .n)) (search needs) (c .before .before .before .before .before .before .put-word .ensures) (c .before .before .put-decimal .ensures) in
+    let all = paste-after (now (a .out)) (a .at) (32 ∷ []) (decimal (a .n)) (search needs) (c .before .before .before .before .before .before .put-word .ensures) (c .before .before .put-decimal .ensures) in
     (all, omega (arith, all .0, decimal-most (a .n)))
 
 pub put-spaced-spec : {M : Type 1} → statement M

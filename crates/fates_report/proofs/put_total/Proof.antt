@@ -2,10 +2,10 @@
 use mathlib.Core.List.{[], _∷_, _++_}
 use denote.Ref.{now}
 use borrow.Author.Needs.{needs}
-use Rattle.text.proofs.Laws.{after}
 use Rattle.fates_report.specs.Report.{wordTotal, spacedNumber, numbers}
 use Rattle.fates_report.proofs.put_total.Statement.{statement}
 use Rattle.fates_report.proofs.put_total.Tie as tie
+use Rattle.octets.proofs.Runs.{paste-after}
 
 returns : tie.Need-returns
 returns c =
@@ -15,9 +15,9 @@ returns c =
     let toEnds = wordTotal ++ numbers 6 384 l in
     let toOpen = toEnds ++ spacedNumber (o .result) in
     rw (← o .ensures) (
-      after (now (a .out)) (a .at) toOpen (10 ∷ []) (search needs)
-          (after (now (a .out)) (a .at) toEnds (spacedNumber (o .result)) (search needs)
-          (after (now (a .out)) (a .at) wordTotal (numbers 6 384 l) (search needs)
+      paste-after (now (a .out)) (a .at) toOpen (10 ∷ []) (search needs)
+          (paste-after (now (a .out)) (a .at) toEnds (spacedNumber (o .result)) (search needs)
+          (paste-after (now (a .out)) (a .at) wordTotal (numbers 6 384 l) (search needs)
           (c .before .before .before .before .before .before .before .before .before .before .before .before .before .before .before .before .put-word .ensures)
           (c .before .before .before .before .before .before .before .before .before .before .before .before .put-numbers .ensures .0))
           (c .before .before .before .before .before .before .before .put-spaced .ensures .0))

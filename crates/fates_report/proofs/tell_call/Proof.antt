@@ -5,7 +5,7 @@ use denote.Ref.{now}
 use lib.ListN.{length, length-take}
 use borrow.Author.Needs.{needs}
 use Rattle.fates_book.specs.Lines.{openingLines, linesIn}
-use Rattle.fates_report.proofs.Laws.{call-told}
+use Rattle.fates_report.proofs.Laws.{lines-told}
 use Rattle.fates_report.proofs.tell_call.Statement.{statement}
 use Rattle.fates_report.proofs.tell_call.Tie as tie
 
@@ -21,7 +21,7 @@ returns c =
     let q = c .before .before .before .before .before .before .before .before .before .before .before .before .before .before .before .input-of in
     let one = c .before .before .before .before .before .before .before .before .before .before .before .before .tell-opening .ensures in
     let two = c .before .before .before .before .tell-records .ensures in
-    let all = call-told (now (a .out)) (a .at) (now (a .register)) (openingLines (a .answer / 16777216)) (linesIn (length (now (s .result))) (q .result) (now (s .result))) (search needs) (one .0) (one .1 .1) (two .0) (two .1 .1) in
+    let all = lines-told (now (a .out)) (a .at) (now (a .register)) (openingLines (a .answer / 16777216)) (linesIn (length (now (s .result))) (q .result) (now (s .result))) (search needs) (one .0) (one .1 .1) (two .0) (two .1 .1) in
     rw (← s .ensures, ← q .ensures) (all .0, (omega (arith, one .1 .0, two .1 .0), all .1))
 
 pub tell-call-spec : {M : Type 1} → statement M

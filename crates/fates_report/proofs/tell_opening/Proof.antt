@@ -5,13 +5,14 @@ use denote.Ref.{now}
 use borrow.Author.Needs.{needs}
 use Rattle.fates_register.specs.Register.{enteredAll}
 use Rattle.fates_report.specs.Report.{allText}
-use Rattle.fates_report.proofs.Laws.{unwritten, opened-text, opened-register}
+use Rattle.fates_report.proofs.Laws.{opened-text, opened-register}
 use Rattle.fates_report.proofs.tell_opening.Statement.{statement}
 use Rattle.fates_report.proofs.tell_opening.Tie as tie
+use Rattle.octets.proofs.Runs.{paste-none}
 
 returns : tie.Need-returns
 unfolding allText enteredAll
-returns c = rw (c .if1 .taken) (unwritten (now (c .before .before .before .args .out)) (c .before .before .before .args .at), (omega arith, refl))
+returns c = rw (c .if1 .taken) (paste-none (now (c .before .before .before .args .out)) (c .before .before .before .args .at), (omega arith, refl))
 
 returns-2 : tie.Need-returns-2
 returns-2 c =

@@ -9,7 +9,7 @@ use borrow.Author.Needs.{needs}
 use Rattle.paper.proofs.Sizes.{size-within}
 use Rattle.fates_book.specs.Lines.{lineAt, linesIn}
 use Rattle.fates_report.specs.Report.{lineText}
-use Rattle.fates_report.proofs.Laws.{record-most, Telling, all-telling, less-telling, none-telling}
+use Rattle.fates_report.proofs.Laws.{said-most, Telling, all-telling, less-telling, none-telling}
 use Rattle.fates_report.proofs.tell_records.Statement.{statement}
 use Rattle.fates_report.proofs.tell_records.Tie as tie
 
@@ -42,7 +42,7 @@ loop-again c =
     let whole : take (length b - l .i) (drop (l .i) b) ≡ drop (l .i) b =
     take-all (length b - l .i) (drop (l .i) b) (omega (arith, length-drop (l .i) b)) in
     let this : line .result ≡ lineAt (a .q) (drop (l .i) b) = line .ensures ∙ ap (lineAt (a .q)) whole in
-    let most : length (lineText (line .result) (l .register)) ≤ 100 = rw this (record-most (a .q) (drop (l .i) b) (l .register)) in
+    let most : length (lineText (line .result) (l .register)) ≤ 100 = rw this (said-most (a .q) (drop (l .i) b) (l .register)) in
     let fits = size-within (getD b (l .i) 0) in (
       omega (arith, size .ensures, fits),
       omega (arith, size .ensures, fits, told .ensures .0 .0, most, l .inv .1),

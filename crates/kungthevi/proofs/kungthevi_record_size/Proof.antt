@@ -1,9 +1,9 @@
 use native.Mathlib.Omega.{arith}
 use denote.Ref.{now}
-use Rattle.kungthevi.proofs.Laws.{record-most}
 use borrow.Author.Needs.{needs}
 use Rattle.kungthevi.proofs.kungthevi_record_size.Statement.{statement}
 use Rattle.kungthevi.proofs.kungthevi_record_size.Tie as tie
+use Rattle.paper.proofs.Records.{record-most}
 
 cast-result : tie.Need-cast-result
 cast-result c = omega (arith, c .record-size .ensures, record-most (now (c .before .before .args .bytes)))

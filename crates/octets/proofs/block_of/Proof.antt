@@ -9,9 +9,10 @@ use lib.ListN.{length, getD, take}
 use lib.Seq.{take-all}
 use Rattle.octets.specs.Numbers.{be32}
 use Rattle.octets.specs.Blocks.{flat, pad}
-use Rattle.octets.proofs.Laws.{paste-length, flat-more}
 use Rattle.octets.proofs.block_of.Statement.{statement}
 use Rattle.octets.proofs.block_of.Tie as tie
+use Rattle.octets.proofs.Runs.{paste-length}
+use Rattle.octets.proofs.Blocks.{flat-more}
 
 abbrev Inv-loop : tie.InvT-loop
 Inv-loop fields block₀ i₀ block i = (i ≤ length fields) × (length block ≡ 96) × (block ≡ pad (flat (take i fields)))

@@ -5,9 +5,9 @@ use denote.Ref.{now}
 use Prim.Native.Nat.{_*_}
 use lib.ListN.{length}
 use Rattle.octets.specs.Blocks.{flat}
-use Rattle.octets.proofs.Laws.{pad-at, flat-length}
 use Rattle.octets.proofs.block_with.Statement.{statement}
 use Rattle.octets.proofs.block_with.Tie as tie
+use Rattle.octets.proofs.Blocks.{flat-length, pad-at}
 
 returns : tie.Need-returns
 returns c =

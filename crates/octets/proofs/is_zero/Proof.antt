@@ -7,9 +7,9 @@ use mathlib.Core.Path.{_≡_, refl, _∙_}
 use lib.Dec.{eqb}
 use lib.ListN.{length, drop, drop-of-length-le}
 use Rattle.octets.specs.Runs.{allZero}
-use Rattle.octets.proofs.Laws.{zero-more}
 use Rattle.octets.proofs.is_zero.Statement.{statement}
 use Rattle.octets.proofs.is_zero.Tie as tie
+use Rattle.octets.proofs.Runs.{zero-more}
 
 abbrev Inv-loop : tie.InvT-loop
 Inv-loop s any₀ i₀ any i = (i ≤ length s) × (eqb any 0 && allZero (drop i s) ≡ allZero s)

@@ -4,10 +4,10 @@ use native.Mathlib.Nat.{add-sub-cancel-left}
 use native.Mathlib.Omega.{arith}
 use denote.Ref.{now}
 use lib.ListN.{length}
-use Rattle.octets.proofs.Laws.{part-past, part-rest}
 use borrow.Author.Needs.{needs}
 use Rattle.octets.proofs.part_at.Statement.{statement}
 use Rattle.octets.proofs.part_at.Tie as tie
+use Rattle.octets.proofs.Runs.{part-past, part-rest}
 
 returns : tie.Need-returns
 returns c =

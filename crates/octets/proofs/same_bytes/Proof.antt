@@ -7,9 +7,9 @@ use mathlib.Core.List.{List}
 use mathlib.Core.Path.{_≡_, refl, sym, ap, _∙_}
 use lib.ListN.{length, getD, take}
 use lib.Seq.{take-suc, take-all}
-use Rattle.octets.proofs.Laws.{same-self, same-not}
 use Rattle.octets.proofs.same_bytes.Statement.{statement}
 use Rattle.octets.proofs.same_bytes.Tie as tie
+use Rattle.octets.proofs.Runs.{same-self, same-not}
 
 abbrev Inv-loop : tie.InvT-loop
 Inv-loop a b i₀ i = (i ≤ length a) × (take i a ≡ take i b)

@@ -1,6 +1,5 @@
 -- With the request known, the list comes down to the rows of its code, and the state to one of them.
-use Rattle.paper_rows.proofs.Laws.{other}
-use Rattle.ledger.proofs.Tallies.{both-none}
+use Rattle.ledger.proofs.Tallies.{both-none, differs}
 use borrow.Author.Needs.{needs}
 use Rattle.paper_rows.proofs.request_course.Statement.{statement}
 use Rattle.paper_rows.proofs.request_course.Tie as tie
@@ -24,7 +23,7 @@ returns-6 : tie.Need-returns-6
 returns-6 c = simp (c .enum-told5 .given .1)
 
 returns-7 : tie.Need-returns-7
-returns-7 c = simp (both-none, c .before .enum-told6 .given .1, other 1 _ (c .if1 .left))
+returns-7 c = simp (both-none, c .before .enum-told6 .given .1, differs 1 _ (c .if1 .left))
 
 returns-8 : tie.Need-returns-8
 returns-8 c = simp (c .enum-told7 .given .1)
@@ -45,7 +44,7 @@ returns-13 : tie.Need-returns-13
 returns-13 c = simp (c .before .enum-told9 .given .1, c .match2 .keys4)
 
 returns-14 : tie.Need-returns-14
-returns-14 c = simp (c .before .enum-told9 .given .1, other 8 _ (c .match2 .rest .0 .0 .0 .1), other 9 _ (c .match2 .rest .0 .0 .1), other 11 _ (c .match2 .rest .0 .1), other 12 _ (c .match2 .rest .1))
+returns-14 c = simp (c .before .enum-told9 .given .1, differs 8 _ (c .match2 .rest .0 .0 .0 .1), differs 9 _ (c .match2 .rest .0 .0 .1), differs 11 _ (c .match2 .rest .0 .1), differs 12 _ (c .match2 .rest .1))
 
 returns-15 : tie.Need-returns-15
 returns-15 c = simp (c .enum-told10 .given .1)

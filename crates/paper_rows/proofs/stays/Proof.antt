@@ -1,8 +1,8 @@
 use borrow.Author.Tests.{eq-eqb}
 use mathlib.Core.Path.{refl}
-use Rattle.paper_rows.proofs.Laws.{other}
 use Rattle.paper_rows.proofs.stays.Statement.{statement}
 use Rattle.paper_rows.proofs.stays.Tie as tie
+use Rattle.ledger.proofs.Tallies.{differs}
 
 returns : tie.Need-returns
 returns c = λ k. simp (eq-eqb k k refl, c .if1 .taken, c .before .match .keys3)
@@ -14,7 +14,7 @@ returns-3 : tie.Need-returns-3
 returns-3 c = λ k. simp (eq-eqb k k refl, c .match .keys2)
 
 returns-4 : tie.Need-returns-4
-returns-4 c = λ k. simp (eq-eqb k k refl, other 1 _ (c .if1 .left), c .before .match .keys3)
+returns-4 c = λ k. simp (eq-eqb k k refl, differs 1 _ (c .if1 .left), c .before .match .keys3)
 
 returns-5 : tie.Need-returns-5
 returns-5 c = λ k. simp (eq-eqb k k refl, c .match .keys4)
@@ -32,13 +32,13 @@ returns-9 : tie.Need-returns-9
 returns-9 c =
     λ k. simp (
       eq-eqb k k refl,
-      other 0 _ (c .match .rest .0 .0 .0 .0 .0 .0 .1),
-      other 3 _ (c .match .rest .0 .0 .0 .0 .0 .1),
-      other 6 _ (c .match .rest .0 .0 .0 .0 .1),
-      other 8 _ (c .match .rest .0 .0 .0 .1),
-      other 9 _ (c .match .rest .0 .0 .1),
-      other 11 _ (c .match .rest .0 .1),
-      other 12 _ (c .match .rest .1),
+      differs 0 _ (c .match .rest .0 .0 .0 .0 .0 .0 .1),
+      differs 3 _ (c .match .rest .0 .0 .0 .0 .0 .1),
+      differs 6 _ (c .match .rest .0 .0 .0 .0 .1),
+      differs 8 _ (c .match .rest .0 .0 .0 .1),
+      differs 9 _ (c .match .rest .0 .0 .1),
+      differs 11 _ (c .match .rest .0 .1),
+      differs 12 _ (c .match .rest .1),
     )
 
 pub stays-spec : {M : Type 1} → statement M

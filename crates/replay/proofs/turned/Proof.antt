@@ -3,17 +3,17 @@ use native.Mathlib.Omega.{arith}
 use mathlib.Core.Path.{refl, sym, _∙_}
 use borrow.Author.Needs.{needs}
 use Rattle.ledger.specs.Choice.{_⇒_∣_}
-use Rattle.replay.specs.Turns.{turnAfter, tableAfter, outputAfter}
+use Rattle.turns.specs.Turns.{turnAfter, afterTurn}
 use Rattle.turns.proofs.Laws.{not-over}
 use Rattle.replay.proofs.turned.Statement.{statement}
 use Rattle.replay.proofs.turned.Tie as tie
 
 returns : tie.Need-returns
-unfolding turnAfter tableAfter outputAfter _⇒_∣_
+unfolding turnAfter afterTurn _⇒_∣_
 returns c = rw (← c .before .waits .ensures, c .if1 .taken) ((refl, search needs), ((refl, search needs), refl))
 
 returns-2 : tie.Need-returns-2
-unfolding turnAfter tableAfter outputAfter _⇒_∣_
+unfolding turnAfter afterTurn _⇒_∣_
 returns-2 c =
     let w = c .before .before .before in
     rw (← w .before .waits .ensures, w .if1 .left, ← c .before .before .is-over .ensures, c .before .if2 .taken) (c .stopped .ensures, ((refl, search needs), refl))
@@ -25,7 +25,7 @@ called-requires c κs =
     (search needs, search needs, search needs, search needs, omega (arith, not-over t (sym (o .before .is-over .ensures) ∙ o .if2 .left)))
 
 returns-3 : tie.Need-returns-3
-unfolding turnAfter tableAfter outputAfter _⇒_∣_
+unfolding turnAfter afterTurn _⇒_∣_
 returns-3 c =
     let o = c .before .before .before .before .before .before .before in
     let w = c .before .before .before .before .before .before .before .before .before in

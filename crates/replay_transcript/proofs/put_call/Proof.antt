@@ -24,8 +24,8 @@ returns-3 c =
     let t = c .before .before .before .before in
     rw (le-ltb _ _ (t .before .before .if1 .left), le-ltb _ _ (t .before .if2 .left), eq-eqb _ _ (t .if3 .taken)) (c .before .before .put-ok .ensures)
 
-put-records-requires : tie.Need-put-records-requires
-put-records-requires c κs =
+put-lines-requires : tie.Need-put-lines-requires
+put-lines-requires c κs =
     let a = c .before .before .before .before .before .before .before .args in
     rw (c .start-of .ensures) (omega (arith, length-take (a .answer % 65536) (now (a .room))), search needs)
 
@@ -34,7 +34,7 @@ unfolding callText _⇒_∣_
 returns-4 c =
     let t = c .before .before .before .before .before in
     rw (le-ltb _ _ (t .before .before .if1 .left), le-ltb _ _ (t .before .if2 .left), ne-eqb _ _ (t .if3 .left), ← c .before .before .before .start-of .ensures)
-    (c .before .before .put-records .ensures)
+    (c .before .before .put-lines .ensures)
 
 pub put-call-spec : {M : Type 1} → statement M
 put-call-spec =
@@ -52,6 +52,6 @@ put-call-spec =
     (λ c. search needs)
     returns-3
     (λ c κs. search needs)
-    put-records-requires
+    put-lines-requires
     (λ c. search needs)
     returns-4)

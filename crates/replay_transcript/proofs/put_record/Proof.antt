@@ -5,11 +5,11 @@ use mathlib.Core.List.{List, [], _∷_, _++_}
 use denote.Ref.{now}
 use borrow.Author.Needs.{needs}
 use lib.ListN.{length}
-use Rattle.text.proofs.Laws.{after}
 use Rattle.replay_transcript.specs.Transcript.{pair, spaced, recordLine}
 use Rattle.replay_transcript.proofs.Laws.{shown-most, spaced-most}
 use Rattle.replay_transcript.proofs.put_record.Statement.{statement}
 use Rattle.replay_transcript.proofs.put_record.Tie as tie
+use Rattle.octets.proofs.Runs.{paste-after}
 
 put-shown-requires : tie.Need-put-shown-requires
 put-shown-requires c κs =
@@ -34,8 +34,8 @@ returns c =
     let q = c .before .before .before .before .before .before .before .before .before .before .before .before .put-pair .ensures in
     let p : List ℕ = pair (a .n) (32 ∷ kind .result ∷ 32 ∷ []) (stream .result) in
     rw (← kind .ensures, ← stream .ensures, ← s .ensures)
-    (after (now (a .out)) (a .at) (p ++ spaced (now (s .result))) (10 ∷ []) (search needs)
-    (after (now (a .out)) (a .at) p (spaced (now (s .result))) (search needs) (q .0, q .2) (c .before .before .before .before .before .before .before .put-shown .ensures))
+    (paste-after (now (a .out)) (a .at) (p ++ spaced (now (s .result))) (10 ∷ []) (search needs)
+    (paste-after (now (a .out)) (a .at) p (spaced (now (s .result))) (search needs) (q .0, q .2) (c .before .before .before .before .before .before .before .put-shown .ensures))
     (c .before .before .put-word .ensures))
 
 pub put-record-spec : {M : Type 1} → statement M

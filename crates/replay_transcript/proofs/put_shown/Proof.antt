@@ -5,10 +5,10 @@ use denote.Ref.{now}
 use borrow.Author.Needs.{needs}
 use mathlib.Core.Path.{sym}
 use Rattle.text.specs.Digits.{hex}
-use Rattle.text.proofs.Laws.{after, paste-nothing}
 use Rattle.replay_transcript.proofs.Laws.{spaced-none, spaced-some}
 use Rattle.replay_transcript.proofs.put_shown.Statement.{statement}
 use Rattle.replay_transcript.proofs.put_shown.Tie as tie
+use Rattle.octets.proofs.Runs.{paste-nothing, paste-after}
 
 returns : tie.Need-returns
 returns c =
@@ -19,7 +19,7 @@ returns-2 : tie.Need-returns-2
 returns-2 c =
     let a = c .before .before .before .before .before .before .before .before .before .before .before .before .args in
     rw (spaced-some (now (a .s)) (c .before .before .before .before .before .before .before .before .before .if1 .left))
-    (after (now (a .out)) (a .at) (32 ∷ []) (hex (now (a .s))) (search needs) (c .before .before .before .before .before .before .put-word .ensures) (c .before .before .put-hex .ensures))
+    (paste-after (now (a .out)) (a .at) (32 ∷ []) (hex (now (a .s))) (search needs) (c .before .before .before .before .before .before .put-word .ensures) (c .before .before .put-hex .ensures))
 
 pub put-shown-spec : {M : Type 1} → statement M
 put-shown-spec =

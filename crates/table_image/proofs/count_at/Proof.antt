@@ -5,9 +5,10 @@ use denote.Ref.{now}
 use lib.ListN.{length, getD}
 use Rattle.octets.specs.Numbers.{be32At}
 use Rattle.octets.specs.Runs.{part}
+use Rattle.octets.proofs.Runs.{part-byte}
 use Rattle.paper.specs.Base.{Slot}
 use Rattle.table_image.specs.Layout.{slotBase, waitingFrom, slotAt}
-use Rattle.table_image.proofs.Joined.{listed-length, part-byte}
+use Rattle.table_image.proofs.Joined.{listed-length}
 use Rattle.table_image.proofs.TableBack.{slot-at}
 use borrow.Author.Needs.{needs}
 use Rattle.table_image.proofs.count_at.Statement.{statement}

@@ -5,11 +5,11 @@ use native.Mathlib.Omega.{arith}
 use denote.Ref.{now}
 use Rattle.paper.specs.Base.{Slot}
 use Rattle.table_image.specs.Layout.{slotBase, streamFrom, slotAt}
-use Rattle.table_image.proofs.Joined.{part-be32}
 use Rattle.table_image.proofs.TableBack.{slot-at}
 use borrow.Author.Needs.{needs}
 use Rattle.table_image.proofs.ppa_at.Statement.{statement}
 use Rattle.table_image.proofs.ppa_at.Tie as tie
+use Rattle.octets.proofs.Numbers.{part-be32}
 
 returns : tie.Need-returns
 unfolding slotAt streamFrom

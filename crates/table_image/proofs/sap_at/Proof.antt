@@ -5,11 +5,11 @@ use native.Mathlib.Omega.{arith}
 use denote.Ref.{now}
 use Rattle.paper.specs.Base.{Slot}
 use Rattle.table_image.specs.Layout.{slotBase, streamFrom, slotAt}
-use Rattle.table_image.proofs.Joined.{part-be16}
 use Rattle.table_image.proofs.TableBack.{slot-at}
 use borrow.Author.Needs.{needs}
 use Rattle.table_image.proofs.sap_at.Statement.{statement}
 use Rattle.table_image.proofs.sap_at.Tie as tie
+use Rattle.octets.proofs.Numbers.{part-be16}
 
 returns : tie.Need-returns
 unfolding slotAt streamFrom

@@ -3,11 +3,11 @@ use native.Mathlib.Omega.{arith}
 use denote.Ref.{now}
 use Rattle.paper.specs.Base.{Slot, stateOf}
 use Rattle.table_image.specs.Layout.{slotBase, streamFrom, slotAt}
-use Rattle.table_image.proofs.Joined.{part-byte}
 use Rattle.table_image.proofs.TableBack.{slot-at}
 use borrow.Author.Needs.{needs}
 use Rattle.table_image.proofs.state_at.Statement.{statement}
 use Rattle.table_image.proofs.state_at.Tie as tie
+use Rattle.octets.proofs.Runs.{part-byte}
 
 returns : tie.Need-returns
 unfolding slotAt streamFrom

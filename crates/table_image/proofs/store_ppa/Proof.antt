@@ -6,7 +6,7 @@ use denote.Ref.{now}
 use lib.ListN.{length}
 use Rattle.octets.specs.Numbers.{be32}
 use Rattle.octets.specs.Runs.{paste}
-use Rattle.octets.proofs.Laws.{paste-join}
+use Rattle.octets.proofs.Runs.{paste-join}
 use Rattle.paper.specs.declared.Ppa.{Ppa}
 use Rattle.table_image.specs.Layout.{ppaBase, ppaBytes, tableOf}
 use Rattle.table_image.proofs.Stored.{store-ppa}

@@ -4,10 +4,9 @@ use denote.Ref.{now}
 use borrow.Author.Needs.{needs}
 use Rattle.octets.specs.Runs.{part}
 use Rattle.table_image.specs.Layout.{ppaBase, ppaAt, ppaFrom}
-use Rattle.table_image.proofs.Joined.{part-length}
 use Rattle.table_lookup.proofs.Laws.{ppa-place}
 use lib.ListN.{replicate}
-use Rattle.octets.proofs.Laws.{paste-whole}
+use Rattle.octets.proofs.Runs.{part-length, paste-whole}
 use Rattle.table_lookup.proofs.mac_at_place.Statement.{statement}
 use Rattle.table_lookup.proofs.mac_at_place.Tie as tie
 

@@ -5,7 +5,7 @@ use borrow.Author.Needs.{needs}
 use denote.Ref.{now}
 use Rattle.paper.specs.Base.{waiting}
 use Rattle.table_image.specs.Layout.{tableOf}
-use Rattle.table_numbers.proofs.Laws.{calls-stored}
+use Rattle.table_numbers.proofs.Laws.{numbers-stored}
 use Rattle.table_numbers.proofs.add_number.Statement.{statement}
 use Rattle.table_numbers.proofs.add_number.Tie as tie
 
@@ -16,7 +16,7 @@ returns c =
     let w = waiting (tableOf (now (a .img))) (a .i) in
     let n = a .n .0 ∷ [] in
     rw (c .before .before .put-slot .ensures, c .before .before .before .before .one-number-more .ensures)
-    (calls-stored (now (a .img)) (s .pre .2) (a .i) (s .pre .0) (a .s) (w ++ n) (omega (arith, length-append w n)))
+    (numbers-stored (now (a .img)) (s .pre .2) (a .i) (s .pre .0) (a .s) (w ++ n) (omega (arith, length-append w n)))
 
 pub add-number-spec : {M : Type 1} → statement M
 add-number-spec = tie.close (tie.spec (λ c κs. search needs) (λ c κs. search needs) (λ c. search needs) returns)

@@ -8,9 +8,9 @@ use denote.Ref.{now}
 use Rattle.paper.specs.Base.{waiting}
 use Rattle.table_image.specs.Layout.{tableOf, waitingBytes}
 use Rattle.table_numbers.proofs.Laws.{numbers-part, waiting-length}
-use Rattle.octets.proofs.Laws.{paste-whole}
 use Rattle.table_numbers.proofs.numbers_of.Statement.{statement}
 use Rattle.table_numbers.proofs.numbers_of.Tie as tie
+use Rattle.octets.proofs.Runs.{paste-whole}
 
 returns : tie.Need-returns
 returns c =

@@ -6,12 +6,12 @@ use mathlib.Core.List.{List, _++_, append-nil}
 use lib.ListN.{length, take, drop, drop-of-length-le}
 use borrow.Author.Needs.{needs}
 use denote.Ref.{now}
-use Rattle.octets.proofs.Laws.{paste-length}
 use Rattle.paper.specs.Base.{Slot, waiting, closed}
 use Rattle.table_image.specs.Layout.{tableOf, joined}
 use Rattle.table_numbers.proofs.Laws.{copied-on}
 use Rattle.table_numbers.proofs.open_numbers.Statement.{statement}
 use Rattle.table_numbers.proofs.open_numbers.Tie as tie
+use Rattle.octets.proofs.Runs.{paste-length}
 
 abbrev Inv-loop : tie.InvT-loop
 Inv-loop img dst₀ total₀ i₀ dst total i =

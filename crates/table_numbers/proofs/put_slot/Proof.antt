@@ -5,11 +5,11 @@ use mathlib.Core.Path.{_≡_, sym}
 use lib.ListN.{length}
 use borrow.Author.Needs.{needs}
 use denote.Ref.{now}
-use Rattle.octets.proofs.Laws.{paste-join}
 use Rattle.table_image.specs.Layout.{slotBase, streamBytes}
 use Rattle.table_image.proofs.Shapes.{stream-length}
 use Rattle.table_numbers.proofs.put_slot.Statement.{statement}
 use Rattle.table_numbers.proofs.put_slot.Tie as tie
+use Rattle.octets.proofs.Runs.{paste-join}
 
 returns : tie.Need-returns
 returns c =

@@ -9,10 +9,10 @@ use borrow.Author.Needs.{needs}
 use denote.Ref.{now}
 use Rattle.ledger.specs.Tally.{occ, without, has}
 use Rattle.ledger.proofs.Tallies.{length-without}
+use Rattle.ledger.proofs.Searches.{without-none}
 use Rattle.paper.specs.Base.{Table, waiting}
 use Rattle.paper.specs.declared.Correlation.{Correlation}
 use Rattle.table_image.specs.Layout.{tableOf}
-use Rattle.table_numbers.proofs.Laws.{without-none}
 use Rattle.table_numbers.proofs.remaining.Statement.{statement}
 use Rattle.table_numbers.proofs.remaining.Tie as tie
 

@@ -8,10 +8,10 @@ use borrow.Author.Needs.{needs}
 use denote.Ref.{now}
 use Rattle.ledger.specs.Tally.{without, firstOf}
 use Rattle.ledger.proofs.Tallies.{length-without-le}
-use Rattle.ledger.proofs.Searches.{has-first}
+use Rattle.ledger.proofs.Searches.{has-first, without-none, without-first}
 use Rattle.paper.specs.Base.{withStream, waiting}
 use Rattle.table_image.specs.Layout.{tableOf}
-use Rattle.table_numbers.proofs.Laws.{calls-stored, without-none, without-first}
+use Rattle.table_numbers.proofs.Laws.{numbers-stored}
 use Rattle.table_numbers.proofs.remove_number.Statement.{statement}
 use Rattle.table_numbers.proofs.remove_number.Tie as tie
 
@@ -24,7 +24,7 @@ returns c =
     let p = c .before .before .before .before .before .before .before .number-place .ensures in
     let h : firstOf (eqb n) w < length w = omega (arith, p, c .before .before .before .before .before .before .before .before .before .count-at .ensures) in
     rw (c .before .before .put-slot .ensures, c .before .before .before .before .one-number-less .ensures, p, ← without-first n w h)
-    (calls-stored (now (a .img)) (s .pre .2) (a .i) (s .pre .0) (a .s) (without n w) (omega (arith, length-without-le n w, s .pre .2 .shaped .eight (a .i))))
+    (numbers-stored (now (a .img)) (s .pre .2) (a .i) (s .pre .0) (a .s) (without n w) (omega (arith, length-without-le n w, s .pre .2 .shaped .eight (a .i))))
 
 returns-2 : tie.Need-returns-2
 unfolding withStream

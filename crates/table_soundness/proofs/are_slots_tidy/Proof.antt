@@ -7,13 +7,14 @@ use borrow.Author.Needs.{needs}
 use denote.Ref.{now}
 use Rattle.octets.specs.Runs.{part}
 use Rattle.table_image.specs.Layout.{slotBase, tidySlot, slotParts}
-use Rattle.table_soundness.proofs.Laws.{told, told-not, passed, all-fails, all-on, all-ends}
 use Rattle.table_soundness.proofs.Slots.{slot-part}
 use Rattle.table_soundness.proofs.are_slots_tidy.Statement.{statement}
 use Rattle.table_soundness.proofs.are_slots_tidy.Tie as tie
+use Rattle.ledger.proofs.Tallies.{test-held, test-failed}
+use Rattle.ledger.proofs.Walks.{allPassed, all-fails, all-on, all-ends}
 
 abbrev Inv-loop : tie.InvT-loop
-Inv-loop img i₀ i = passed tidySlot (slotParts img) i
+Inv-loop img i₀ i = allPassed tidySlot (slotParts img) i
 
 abbrev μ-loop : tie.MeasureT-loop
 μ-loop img i₀ i = 16 - i
@@ -29,7 +30,7 @@ returns c =
     let b : i < 16 = c .before .before .before .loop-test .taken in
     let m : i * 42 + 88 + 42 - (i * 42 + 88) ≡ 42 = omega arith in
     let e : c .before .is-slot-tidy .result ≡ tidySlot (getD (slotParts img) i []) = c .before .is-slot-tidy .ensures ∙ ap (λ (k : ℕ). tidySlot (part img (slotBase i) k)) m ∙ ap tidySlot (sym (slot-part img i b)) in
-    all-fails [] (slotParts img) i b tidySlot (c .before .before .before .before .loop .inv) (told-not e (c .if1 .taken))
+    all-fails [] (slotParts img) i b tidySlot (c .before .before .before .before .loop .inv) (test-failed e (c .if1 .taken))
 
 loop-again : tie.Need-loop-again Inv-loop μ-loop
 loop-again c =
@@ -39,7 +40,7 @@ loop-again c =
     let b : i < 16 = c .before .before .before .loop-test .taken in
     let m : i * 42 + 88 + 42 - (i * 42 + 88) ≡ 42 = omega arith in
     let e : c .before .is-slot-tidy .result ≡ tidySlot (getD (slotParts img) i []) = c .before .is-slot-tidy .ensures ∙ ap (λ (k : ℕ). tidySlot (part img (slotBase i) k)) m ∙ ap tidySlot (sym (slot-part img i b)) in
-    all-on [] (slotParts img) i b tidySlot (c .before .before .before .before .loop .inv) (told e (c .if1 .left))
+    all-on [] (slotParts img) i b tidySlot (c .before .before .before .before .loop .inv) (test-held e (c .if1 .left))
 
 returns-2 : tie.Need-returns-2 Inv-loop μ-loop
 returns-2 c = all-ends (slotParts (now (c .before .before .before .args .img))) (c .before .loop .i) (c .loop-test .left) tidySlot (c .before .loop .inv)

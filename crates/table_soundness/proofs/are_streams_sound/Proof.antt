@@ -6,12 +6,13 @@ use Rattle.paper.specs.Base.{closed}
 use denote.Ref.{now}
 use Rattle.table_image.specs.Layout.{tableOf}
 use Rattle.table_soundness.specs.Groups.{isStreamSound}
-use Rattle.table_soundness.proofs.Laws.{told, told-not, passed, all-fails, all-on, all-ends}
 use Rattle.table_soundness.proofs.are_streams_sound.Statement.{statement}
 use Rattle.table_soundness.proofs.are_streams_sound.Tie as tie
+use Rattle.ledger.proofs.Tallies.{test-held, test-failed}
+use Rattle.ledger.proofs.Walks.{allPassed, all-fails, all-on, all-ends}
 
 abbrev Inv-loop : tie.InvT-loop
-Inv-loop img i₀ i = passed (isStreamSound (tableOf img)) (tableOf img .slots) i
+Inv-loop img i₀ i = allPassed (isStreamSound (tableOf img)) (tableOf img .slots) i
 
 abbrev μ-loop : tie.MeasureT-loop
 μ-loop img i₀ i = 16 - i
@@ -24,14 +25,14 @@ returns c =
     let s = c .before .before .before .before .before in
     let img = now (s .args .img) in
     let l = c .before .before .before .loop in
-    all-fails closed (tableOf img .slots) (l .i) (omega (arith, s .pre .1 .shaped .sixteen)) (isStreamSound (tableOf img)) (l .inv) (told-not (c .before .is-stream-sound .ensures) (c .if1 .taken))
+    all-fails closed (tableOf img .slots) (l .i) (omega (arith, s .pre .1 .shaped .sixteen)) (isStreamSound (tableOf img)) (l .inv) (test-failed (c .before .is-stream-sound .ensures) (c .if1 .taken))
 
 loop-again : tie.Need-loop-again Inv-loop μ-loop
 loop-again c =
     let s = c .before .before .before .before .before in
     let img = now (s .args .img) in
     let l = c .before .before .before .loop in
-    all-on closed (tableOf img .slots) (l .i) (omega (arith, s .pre .1 .shaped .sixteen)) (isStreamSound (tableOf img)) (l .inv) (told (c .before .is-stream-sound .ensures) (c .if1 .left))
+    all-on closed (tableOf img .slots) (l .i) (omega (arith, s .pre .1 .shaped .sixteen)) (isStreamSound (tableOf img)) (l .inv) (test-held (c .before .is-stream-sound .ensures) (c .if1 .left))
 
 returns-2 : tie.Need-returns-2 Inv-loop μ-loop
 returns-2 c =

@@ -1,10 +1,9 @@
 use mathlib.Core.Path.{sym, _∙_}
 use borrow.Author.Needs.{needs}
-use Rattle.ledger.proofs.Tallies.{both-true}
+use Rattle.ledger.proofs.Tallies.{both-true, test-held, test-failed}
 use Rattle.paper.proofs.StateNumbers.{not-bound}
 use Rattle.paper.specs.Sound.{every, unbound}
 use Rattle.table_soundness.specs.Groups.{isBoundRight}
-use Rattle.table_soundness.proofs.Laws.{told, told-not}
 use Rattle.table_soundness.proofs.is_bound_right.Statement.{statement}
 use Rattle.table_soundness.proofs.is_bound_right.Tie as tie
 
@@ -12,24 +11,24 @@ returns : tie.Need-returns
 unfolding isBoundRight
 returns c =
     let s = c .before .before .before .args .s in
-    let loose = told-not (c .before .before .holds-binding .ensures) (c .before .if1 .taken) in
+    let loose = test-failed (c .before .before .holds-binding .ensures) (c .before .if1 .taken) in
     rw (loose, not-bound (s .state) loose) (c .is-unbound .ensures ∙ sym (both-true (every (unbound s))))
 
 returns-2 : tie.Need-returns-2
 unfolding isBoundRight
-returns-2 c = rw (told (c .before .before .before .holds-binding .ensures) (c .before .before .if1 .left), told-not (c .before .as-bind-allows .ensures) (c .if2 .taken))
+returns-2 c = rw (test-held (c .before .before .before .holds-binding .ensures) (c .before .before .if1 .left), test-failed (c .before .as-bind-allows .ensures) (c .if2 .taken))
 
 returns-3 : tie.Need-returns-3
 unfolding isBoundRight
 returns-3 c =
     let b = c .before .before .before .before .before in
-    rw (told (b .before .holds-binding .ensures) (b .if1 .left), told (c .before .before .before .before .as-bind-allows .ensures) (c .before .before .before .if2 .left), sym (c .before .before .is-connection .ensures) ∙ c .before .if3 .taken)
+    rw (test-held (b .before .holds-binding .ensures) (b .if1 .left), test-held (c .before .before .before .before .as-bind-allows .ensures) (c .before .before .before .if2 .left), sym (c .before .before .is-connection .ensures) ∙ c .before .if3 .taken)
 
 returns-4 : tie.Need-returns-4
 unfolding isBoundRight
 returns-4 c =
     let b = c .before .before .before .before in
-    rw (told (b .before .holds-binding .ensures) (b .if1 .left), told (c .before .before .before .as-bind-allows .ensures) (c .before .before .if2 .left), sym (c .before .is-connection .ensures) ∙ c .if3 .left)
+    rw (test-held (b .before .holds-binding .ensures) (b .if1 .left), test-held (c .before .before .before .as-bind-allows .ensures) (c .before .before .if2 .left), sym (c .before .is-connection .ensures) ∙ c .if3 .left)
 
 pub is-bound-right-spec : {M : Type 1} → statement M
 is-bound-right-spec =

@@ -1,14 +1,14 @@
 use native.Mathlib.Omega.{arith}
 use borrow.Author.Needs.{needs}
 use borrow.Author.Tests.{lt-ltb, le-ltb, eq-eqb, ne-eqb}
-use Rattle.table_soundness.proofs.Slots.{none-open}
+use Rattle.table_soundness.proofs.Slots.{none-waits}
 use Rattle.table_soundness.specs.Groups.{isCountRight}
 use Rattle.table_soundness.proofs.is_count_right.Statement.{statement}
 use Rattle.table_soundness.proofs.is_count_right.Tie as tie
 
 returns : tie.Need-returns
 unfolding isCountRight
-returns c = simp (← c .before .number-of .ensures, ne-eqb _ _ (c .if1 .taken)) (none-open (c .before .before .args .count) (c .before .before .args .s .granted))
+returns c = simp (← c .before .number-of .ensures, ne-eqb _ _ (c .if1 .taken)) (none-waits (c .before .before .args .count) (c .before .before .args .s .granted))
 
 returns-2 : tie.Need-returns-2
 unfolding isCountRight

@@ -3,31 +3,31 @@ use borrow.Author.Needs.{needs}
 use denote.Ref.{now}
 use Rattle.paper.specs.Base.{slot, stream, ppaNumbers}
 use Rattle.table_image.specs.Layout.{tableOf}
-use Rattle.table_soundness.proofs.Laws.{told, told-not}
 use Rattle.table_soundness.proofs.Slots.{grouped}
 use Rattle.table_soundness.proofs.is_open_sound.Statement.{statement}
 use Rattle.table_soundness.proofs.is_open_sound.Tie as tie
+use Rattle.ledger.proofs.Tallies.{test-held, test-failed}
 
 returns : tie.Need-returns
 returns c =
     let t = tableOf (now (c .before .before .before .before .args .img)) in
     let x = slot t (c .before .before .before .before .args .i) in
     let s : c .before .before .load-stream .result ≡ x .stream = c .before .before .load-stream .ensures in
-    rw (grouped (ppaNumbers t) x) (simp (← s, told-not (c .before .is-attached-right .ensures) (c .if1 .taken)))
+    rw (grouped (ppaNumbers t) x) (simp (← s, test-failed (c .before .is-attached-right .ensures) (c .if1 .taken)))
 
 returns-2 : tie.Need-returns-2
 returns-2 c =
     let t = tableOf (now (c .before .before .before .before .before .before .args .img)) in
     let x = slot t (c .before .before .before .before .before .before .args .i) in
     let s : c .before .before .before .before .load-stream .result ≡ x .stream = c .before .before .before .before .load-stream .ensures in
-    rw (grouped (ppaNumbers t) x) (simp (← s, told (c .before .before .before .is-attached-right .ensures) (c .before .before .if1 .left), told-not (c .before .is-bound-right .ensures) (c .if2 .taken)))
+    rw (grouped (ppaNumbers t) x) (simp (← s, test-held (c .before .before .before .is-attached-right .ensures) (c .before .before .if1 .left), test-failed (c .before .is-bound-right .ensures) (c .if2 .taken)))
 
 returns-3 : tie.Need-returns-3
 returns-3 c =
     let t = tableOf (now (c .before .before .before .before .before .before .before .before .args .img)) in
     let x = slot t (c .before .before .before .before .before .before .before .before .args .i) in
     let s : c .before .before .before .before .before .before .load-stream .result ≡ x .stream = c .before .before .before .before .before .before .load-stream .ensures in
-    rw (grouped (ppaNumbers t) x) (simp (← s, ← c .before .count-at .ensures, told (c .before .before .before .before .before .is-attached-right .ensures) (c .before .before .before .before .if1 .left), told (c .before .before .before .is-bound-right .ensures) (c .before .before .if2 .left)) (c .is-count-right .ensures))
+    rw (grouped (ppaNumbers t) x) (simp (← s, ← c .before .count-at .ensures, test-held (c .before .before .before .before .before .is-attached-right .ensures) (c .before .before .before .before .if1 .left), test-held (c .before .before .before .is-bound-right .ensures) (c .before .before .if2 .left)) (c .is-count-right .ensures))
 
 pub is-open-sound-spec : {M : Type 1} → statement M
 is-open-sound-spec =

@@ -5,11 +5,11 @@ use native.Mathlib.Omega.{arith}
 use borrow.Author.Needs.{needs}
 use denote.Ref.{now}
 use Rattle.ledger.specs.Tally.{oneIf}
+use Rattle.ledger.proofs.Walks.{summed, sum-on, sum-ends}
 use Rattle.paper.specs.Base.{Slot, closed, stream}
 use Rattle.paper.specs.Saps.{listens}
 use Rattle.paper.specs.declared.PpaNumber.{PpaNumber}
 use Rattle.table_image.specs.Layout.{tableOf}
-use Rattle.table_soundness.proofs.Laws.{summed, sum-on, sum-ends}
 use Rattle.table_soundness.proofs.listeners_for.Statement.{statement}
 use Rattle.table_soundness.proofs.listeners_for.Tie as tie
 

@@ -7,7 +7,8 @@ use lib.Dec.{eqb}
 use borrow.Author.Needs.{needs}
 use denote.Ref.{now}
 use Rattle.ledger.specs.Tally.{oneIf}
-use Rattle.table_soundness.proofs.Laws.{summed, sum-on, sum-ends, occ-sum}
+use Rattle.ledger.proofs.Tallies.{occ-sum}
+use Rattle.ledger.proofs.Walks.{summed, sum-on, sum-ends}
 use Rattle.table_soundness.proofs.occurs_in.Statement.{statement}
 use Rattle.table_soundness.proofs.occurs_in.Tie as tie
 

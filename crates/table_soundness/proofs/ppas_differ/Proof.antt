@@ -7,9 +7,9 @@ use borrow.Author.Needs.{needs}
 use denote.Ref.{now}
 use borrow.Author.Tests.{lt-leb, le-leb}
 use Rattle.ledger.specs.Tally.{occ}
+use Rattle.ledger.proofs.Walks.{allPassed, all-fails, all-on, all-ends}
 use Rattle.paper.specs.Base.{Table, ppaNumbers}
 use Rattle.table_image.specs.Layout.{tableOf}
-use Rattle.table_soundness.proofs.Laws.{passed, all-fails, all-on, all-ends}
 use Rattle.table_soundness.proofs.Slots.{ppas-many}
 use mathlib.Core.Bool.{Bool}
 use Rattle.table_soundness.proofs.ppas_differ.Statement.{statement}
@@ -19,7 +19,7 @@ abbrev once : Table → ℕ → Bool
 once t p = leb (occ p (ppaNumbers t)) 1
 
 abbrev Inv-loop : tie.InvT-loop
-Inv-loop img total k₀ k = passed (once (tableOf img)) (ppaNumbers (tableOf img)) k
+Inv-loop img total k₀ k = allPassed (once (tableOf img)) (ppaNumbers (tableOf img)) k
 
 abbrev μ-loop : tie.MeasureT-loop
 μ-loop img total k₀ k = total - k

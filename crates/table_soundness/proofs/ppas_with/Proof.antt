@@ -6,9 +6,10 @@ use native.Mathlib.Omega.{arith}
 use borrow.Author.Needs.{needs}
 use denote.Ref.{now}
 use Rattle.ledger.specs.Tally.{oneIf}
+use Rattle.ledger.proofs.Tallies.{occ-sum}
+use Rattle.ledger.proofs.Walks.{summed, sum-on, sum-ends}
 use Rattle.paper.specs.Base.{ppaNumbers}
 use Rattle.table_image.specs.Layout.{tableOf}
-use Rattle.table_soundness.proofs.Laws.{summed, sum-on, sum-ends, occ-sum}
 use Rattle.table_soundness.proofs.Slots.{ppas-many}
 use Rattle.table_soundness.proofs.ppas_with.Statement.{statement}
 use Rattle.table_soundness.proofs.ppas_with.Tie as tie

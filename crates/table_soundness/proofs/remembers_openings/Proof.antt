@@ -5,9 +5,9 @@ use borrow.Author.Needs.{needs}
 use denote.Ref.{now}
 use Rattle.paper.specs.Base.{Slot}
 use Rattle.table_image.specs.Layout.{tableOf}
-use Rattle.table_soundness.proofs.Laws.{all-counted}
 use Rattle.table_soundness.proofs.remembers_openings.Statement.{statement}
 use Rattle.table_soundness.proofs.remembers_openings.Tie as tie
+use Rattle.ledger.proofs.Tallies.{all-counted}
 
 returns : tie.Need-returns
 returns c = simp (sym (c .before .remembers .ensures) ∙ c .if1 .taken)

@@ -1,25 +1,25 @@
 use borrow.Author.Needs.{needs}
 use denote.Ref.{now}
 use Rattle.table_image.specs.Layout.{soundImage}
-use Rattle.table_soundness.proofs.Laws.{told, told-not}
 use Rattle.table_image.specs.Lent.{Lent}
 use Rattle.table_image.proofs.Lending.{lent-tidy, lent-length}
 use Rattle.table_soundness.proofs.sound_image.Statement.{statement}
 use Rattle.table_soundness.proofs.sound_image.Tie as tie
+use Rattle.ledger.proofs.Tallies.{test-held, test-failed}
 
 returns : tie.Need-returns
 unfolding soundImage
-returns c = simp (told-not (c .before .is-tidy .ensures) (c .if1 .taken))
+returns c = simp (test-failed (c .before .is-tidy .ensures) (c .if1 .taken))
 
 is-sound-requires : tie.Need-is-sound-requires
 is-sound-requires c κs =
     let img = now (c .before .before .before .args .img) in
-    let l : Lent img = lent-tidy img (told (c .before .is-tidy .ensures) (c .if1 .left)) in
+    let l : Lent img = lent-tidy img (test-held (c .before .is-tidy .ensures) (c .if1 .left)) in
     (lent-length img l, l)
 
 returns-2 : tie.Need-returns-2
 unfolding soundImage
-returns-2 c = simp (told (c .before .before .is-tidy .ensures) (c .before .if1 .left)) (c .is-sound .ensures)
+returns-2 c = simp (test-held (c .before .before .is-tidy .ensures) (c .before .if1 .left)) (c .is-sound .ensures)
 
 pub sound-image-spec : {M : Type 1} → statement M
 sound-image-spec = tie.close (tie.spec (λ c κs. search needs) returns is-sound-requires returns-2)

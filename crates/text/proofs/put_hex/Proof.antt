@@ -8,8 +8,9 @@ use lib.ListN.{length, getD, take}
 use lib.Seq.{take-all, length-take-le}
 use borrow.Author.Needs.{needs}
 use Rattle.octets.specs.Runs.{paste}
+use Rattle.octets.proofs.Runs.{paste-nothing, paste-then}
 use Rattle.text.specs.Digits.{digit, hex}
-use Rattle.text.proofs.Laws.{hex-length, hex-next, then, paste-nothing}
+use Rattle.text.proofs.Laws.{hex-length, hex-next}
 use Rattle.text.proofs.put_hex.Statement.{statement}
 use Rattle.text.proofs.put_hex.Tie as tie
 
@@ -40,7 +41,7 @@ loop-again c =
     let size : length old ≡ 2 * l .i = omega (arith, hex-length (take (l .i) (now (a .bytes))), length-take-le (l .i) (now (a .bytes)) (search needs)) in (
       omega arith,
       search needs,
-      then {r = a .at + 2 * l .i} (now (a .out)) (a .at) old new (omega arith) (l .inv .2) (omega (arith, size))
+      paste-then {r = a .at + 2 * l .i} (now (a .out)) (a .at) old new (omega arith) (l .inv .2) (omega (arith, size))
           (c .before .before .put-bytes .ensures ∙ ap₂ (λ (x y : ℕ). paste (l .out) (a .at + 2 * l .i) (x ∷ y ∷ [])) (high .ensures) (low .ensures))
           ∙ ap (paste (now (a .out)) (a .at)) (sym (hex-next (now (a .bytes)) (l .i) (search needs))),
     )

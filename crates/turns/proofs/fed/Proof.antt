@@ -7,9 +7,9 @@ use lib.ListN.{length, take, drop, length-take, length-drop}
 use lib.Seq.{take-all}
 use borrow.Author.Needs.{needs}
 use Rattle.turns.specs.Turns.{unread}
-use Rattle.turns.proofs.Laws.{kept-before, brought}
 use Rattle.turns.proofs.fed.Statement.{statement}
 use Rattle.turns.proofs.fed.Tie as tie
+use Rattle.octets.proofs.Runs.{paste-begins, kept-before}
 
 returns : tie.Need-returns
 returns c =
@@ -37,7 +37,7 @@ returns-2 c =
         kept =
             kept-before (front .last .0) (c .before .before .before .before .before .read .last .1 .0) left (length (front .last .0) - left) (left + c .count .result - 0) (search needs) (omega arith)
             ∙ ap (take left) (front .ensures)
-            ∙ brought (now (a .input)) bytes left size;
+            ∙ paste-begins (now (a .input)) bytes left size;
         filled = search needs;
         calls = search needs;
         refused = search needs;

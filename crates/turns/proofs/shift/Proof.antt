@@ -8,7 +8,7 @@ use denote.Ref.{now}
 use lib.ListN.{length, take, drop, length-take, length-drop, replicate}
 use borrow.Author.Needs.{needs}
 use Rattle.octets.specs.Runs.{part, paste}
-use Rattle.turns.proofs.Laws.{brought}
+use Rattle.octets.proofs.Runs.{paste-begins}
 use Rattle.turns.proofs.shift.Statement.{statement}
 use Rattle.turns.proofs.shift.Tie as tie
 
@@ -21,7 +21,7 @@ returns c =
     let held : rest .last .0 ≡ paste (replicate 99 0) 0 w =
     rest .ensures ∙ ap (λ (k : ℕ). paste (replicate 99 0) 0 (take k (drop (a .from) (now (a .buf))))) (add-sub-cancel-left (a .from) (a .n)) in
     let back : take (a .n - 0) (rest .last .0) ≡ w =
-    ap (λ (k : ℕ). take k (rest .last .0)) (sub-zero (a .n)) ∙ ap (take (a .n)) held ∙ brought (replicate 99 0) w (a .n) size in
+    ap (λ (k : ℕ). take k (rest .last .0)) (sub-zero (a .n)) ∙ ap (take (a .n)) held ∙ paste-begins (replicate 99 0) w (a .n) size in
     c .before .before .put-bytes2 .ensures ∙ ap (paste (now (a .buf)) 0) back
 
 pub shift-spec : {M : Type 1} → statement M

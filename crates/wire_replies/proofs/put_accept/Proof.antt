@@ -4,7 +4,7 @@ use denote.Ref.{now}
 use mathlib.Core.Path.{refl, sym, _∙_}
 use mathlib.Core.List.{[], _∷_}
 use Rattle.octets.specs.Numbers.{be32}
-use Rattle.wire_replies.proofs.Laws.{paste-next}
+use Rattle.octets.proofs.Runs.{paste-next}
 use Rattle.wire_replies.proofs.put_accept.Statement.{statement}
 use Rattle.wire_replies.proofs.put_accept.Tie as tie
 

@@ -9,8 +9,8 @@ use lib.ListN.{length, length-append}
 use borrow.Author.Tests.{lt-ltb, le-ltb}
 use Rattle.octets.specs.Numbers.{be16}
 use Rattle.octets.specs.Runs.{paste, over}
+use Rattle.octets.proofs.Runs.{paste-start, paste-next}
 use Rattle.paper.specs.Replies.{sapBytes, addressOf}
-use Rattle.wire_replies.proofs.Laws.{paste-start, paste-next}
 use Rattle.wire_replies.proofs.put_address.Statement.{statement}
 use Rattle.wire_replies.proofs.put_address.Tie as tie
 

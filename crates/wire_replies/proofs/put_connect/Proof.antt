@@ -4,9 +4,9 @@ use denote.Ref.{now}
 use native.Mathlib.Omega.{arith}
 use mathlib.Core.Path.{sym, _∙_}
 use mathlib.Core.List.{[], _∷_}
-use Rattle.wire_replies.proofs.Laws.{paste-next}
 use Rattle.wire_replies.proofs.put_connect.Statement.{statement}
 use Rattle.wire_replies.proofs.put_connect.Tie as tie
+use Rattle.octets.proofs.Runs.{paste-next}
 
 returns : tie.Need-returns
 returns c =

@@ -6,7 +6,7 @@ use Prim.Native.Nat.{ℕ, _+_}
 use mathlib.Core.Path.{refl, sym, _∙_}
 use mathlib.Core.List.{List, [], _∷_, _++_}
 use Rattle.octets.specs.Numbers.{be32}
-use Rattle.wire_replies.proofs.Laws.{paste-next}
+use Rattle.octets.proofs.Runs.{paste-next}
 use Rattle.wire_replies.proofs.put_disconnect.Statement.{statement}
 use Rattle.wire_replies.proofs.put_disconnect.Tie as tie
 

@@ -26,7 +26,7 @@ returns : tie.Need-returns
 unfolding infoOf
 returns c =
     let m = c .before .before .put-info-fields .ensures in
-    let bound = c .before .before .before .before .before .tells-binding in
+    let bound = c .before .before .before .before .before .is-told in
     let n = c .before .before .before .before .before .before .number-of in
     let a = c .before .before .before .before .before .before .before .before .before .args in
     let e : infoFields (n .result) 0 0 3 0 ≡ infoOf (a .q) =
@@ -38,7 +38,7 @@ unfolding infoOf
 returns-2 c =
     let m = c .before .before .put-info-fields2 .ensures in
     let size = c .before .before .before .before .sap-length in
-    let bound = c .before .before .before .before .before .before .tells-binding in
+    let bound = c .before .before .before .before .before .before .is-told in
     let n = c .before .before .before .before .before .before .before .number-of in
     let a = c .before .before .before .before .before .before .before .before .before .before .args in
     let known : size .result ≡ sapLength (a .q .sap) = size .ensures .0 in

@@ -8,9 +8,9 @@ use lib.ListN.{replicate, length-append}
 use Rattle.ledger.specs.Choice.{pick}
 use Rattle.paper.specs.Base.{isAmong, toldStates}
 use Rattle.paper.specs.Replies.{addressOf, infoTail}
-use Rattle.wire_replies.proofs.Laws.{paste-next}
 use Rattle.wire_replies.proofs.put_info_tail.Statement.{statement}
 use Rattle.wire_replies.proofs.put_info_tail.Tie as tie
+use Rattle.octets.proofs.Runs.{paste-next}
 
 returns : tie.Need-returns
 unfolding infoTail

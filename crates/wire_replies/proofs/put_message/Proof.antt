@@ -7,7 +7,8 @@ use mathlib.Core.List.{List, [], _∷_, _++_}
 use lib.ListN.{length}
 use Rattle.octets.specs.Runs.{paste, over}
 use Rattle.octets.specs.Blocks.{flat, pad}
-use Rattle.wire_replies.proofs.Laws.{paste-next, content-length}
+use Rattle.octets.proofs.Runs.{paste-next}
+use Rattle.octets.proofs.Blocks.{content-length}
 use Rattle.wire_replies.proofs.put_message.Statement.{statement}
 use Rattle.wire_replies.proofs.put_message.Tie as tie
 

@@ -2,7 +2,7 @@ use borrow.Author.Tests.{eq-eqb, ne-eqb, not-false}
 use mathlib.Core.Path.{sym, _∙_}
 use Rattle.ledger.specs.Choice.{_⇒_∣_}
 use Rattle.paper.specs.ErrorOrder.{judgeBind}
-use Rattle.paper_rules.proofs.Laws.{mode-fits, sap-fits}
+use Rattle.paper.proofs.Saps.{mode-fits, sap-fits}
 use borrow.Author.Needs.{needs}
 use Rattle.paper_rules.proofs.order.judge_bind.Statement.{statement}
 use Rattle.paper_rules.proofs.order.judge_bind.Tie as tie

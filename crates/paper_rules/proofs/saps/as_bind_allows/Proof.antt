@@ -1,10 +1,10 @@
 use borrow.Author.Tests.{eq-eqb, ne-eqb}
 use lib.Dec.{leb}
 use Rattle.paper.specs.Saps.{asBindAllows}
-use Rattle.paper_rules.proofs.Laws.{either-false}
 use borrow.Author.Needs.{needs}
 use Rattle.paper_rules.proofs.saps.as_bind_allows.Statement.{statement}
 use Rattle.paper_rules.proofs.saps.as_bind_allows.Tie as tie
+use Rattle.ledger.proofs.Tallies.{either-false}
 
 returns : tie.Need-returns
 unfolding asBindAllows

@@ -1,8 +1,8 @@
 use borrow.Author.Tests.{lt-ltb, le-ltb, eq-eqb, ne-eqb}
 use Rattle.paper.specs.Saps.{isSap}
-use Rattle.paper_rules.proofs.Laws.{has-one}
 use Rattle.paper_rules.proofs.saps.is_sap.Statement.{statement}
 use Rattle.paper_rules.proofs.saps.is_sap.Tie as tie
+use Rattle.ledger.proofs.Tallies.{has-one}
 
 returns : tie.Need-returns
 unfolding isSap

@@ -4,9 +4,9 @@ use Prim.Native.Nat.{ℕ}
 use lib.Dec.{eqb}
 use mathlib.Core.Bool.{true, false}
 use mathlib.Core.Path.{refl, sym, ap, _∙_}
-use Rattle.paper_rules.proofs.Laws.{settled-by}
 use Rattle.paper_rules.proofs.streams.settled.Statement.{statement}
 use Rattle.paper_rules.proofs.streams.settled.Tie as tie
+use Rattle.paper.proofs.StateNumbers.{settled-by}
 
 returns : tie.Need-returns
 returns c =

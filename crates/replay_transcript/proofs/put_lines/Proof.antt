@@ -1,4 +1,4 @@
--- `replay_transcript::put_records` meets its contract: what is still to be written leads, from where it is, to the same text.
+-- `replay_transcript::put_lines` meets its contract: what is still to be written leads, from where it is, to the same text.
 use Prim.Native.Nat.{ℕ, zero, suc, _+_, _*_, _-_, _≤_, _<_}
 use native.Mathlib.Omega.{arith}
 use mathlib.Core.List.{List, [], _++_}
@@ -8,12 +8,11 @@ use mathlib.Core.Path.{_≡_, refl, sym, ap, ap₂, subst, _∙_}
 use lib.ListN.{length, getD, take, drop, length-drop, length-take, length-append}
 use lib.Seq.{take-all}
 use Rattle.octets.specs.Runs.{paste}
-use Rattle.octets.proofs.Laws.{paste-join}
-use Rattle.text.proofs.Laws.{paste-nothing}
+use Rattle.octets.proofs.Runs.{paste-join, paste-nothing}
 use Rattle.replay_transcript.specs.Transcript.{recordLine, recordLines, allLines}
 use Rattle.replay_transcript.proofs.Laws.{line-most, lines-end, lines-next}
-use Rattle.replay_transcript.proofs.put_records.Statement.{statement}
-use Rattle.replay_transcript.proofs.put_records.Tie as tie
+use Rattle.replay_transcript.proofs.put_lines.Statement.{statement}
+use Rattle.replay_transcript.proofs.put_lines.Tie as tie
 use Rattle.paper.specs.RecordsOut.{sizeOut}
 use Rattle.paper.proofs.Sizes.{size-within}
 
@@ -100,8 +99,8 @@ returns c =
     let none : recordLines (w .k) (a .n) (drop (l .i) (now (a .rs))) ≡ [] = lines-end (w .k) (a .n) (now (a .rs)) (l .i) (c .loop-test .left) in
     (omega (arith, w .end, ap length none), sym (paste-nothing (l .out) (l .e)) ∙ ap (paste (l .out) (l .e)) (sym none) ∙ sym (w .text))
 
-pub put-records-spec : {M : Type 1} → statement M
-put-records-spec =
+pub put-lines-spec : {M : Type 1} → statement M
+put-lines-spec =
     tie.close
     (tie.spec
     Inv-loop

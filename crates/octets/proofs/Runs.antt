@@ -1,28 +1,19 @@
--- Laws of numbers, runs and blocks of bytes.
-use Prim.Native.Nat.{ℕ, zero, suc, _+_, _*_, _-_, _≤_, _<_}
-use native.Mathlib.Omega.{arith}
-use native.Mathlib.Numerals.{add-one}
-use mathlib.Core.Path.{_≡_, refl, sym, ap, ap₂, _∙_}
+-- Runs of bytes: tests of them, parts, a run over a list from a place on, bytes over the start of a room.
+use Prim.Native.Nat.{ℕ, zero, suc, _+_, _<_, _≤_, _-_}
+use mathlib.Core.Path.{_≡_, refl, ap₂, sym, ap, _∙_}
 use mathlib.Core.Bool.{Bool, true, false, _&&_, false≢true, and-assoc}
 use mathlib.Core.List.{List, [], _∷_, _++_, append-assoc, append-nil}
-use lib.Bits.{bitOr, or-add-and, and-le-r}
 use lib.Dec.{eqb, eqb·suc-zero}
-use lib.ListN.{length, getD, take, drop, replicate, length-append, length-drop, length-take, length-replicate, replicate-append-replicate, drop-of-length-le}
-use lib.Seq.{take-at, drop-at, take-all, take-nil, take-suc, drop-cons, drop-drop, length-take-le}
-use borrow.Author.Tests.{eq-eqb, ne-eqb, eqb-true}
-use borrow.Rule.Slice.PartMut.{midOf, putMid}
-use Rattle.octets.specs.Numbers.{be16At, be32At, be16, be32}
-use Rattle.octets.specs.Runs.{part, paste, over, allZero, sameBytes}
-use Rattle.octets.specs.Blocks.{flat, pad}
-
--- ---- numbers
-
--- reading a number's bytes gives the number
-pub be16At-be16 : (v : ℕ) (r : List ℕ) → be16At (be16 v ++ r) 0 ≡ v
-be16At-be16 v r = omega arith
-
-pub be32At-be32 : (v : ℕ) (r : List ℕ) → be32At (be32 v ++ r) 0 ≡ v
-be32At-be32 v r = omega arith
+use borrow.Author.Tests.{eqb-true, eq-eqb, ne-eqb}
+use lib.ListN.{length, replicate, getD, drop, take, drop-of-length-le, length-drop, length-take, length-append, take-append-drop}
+use native.Mathlib.Omega.{arith}
+use lib.Bits.{bitOr, or-add-and, and-le-r}
+use native.Mathlib.Numerals.{add-one}
+use lib.Seq.{drop-cons, take-nil, take-all, length-take-le, getD-drop, take-add, drop-drop, getD-take, drop-at, take-at, take-take}
+use borrow.Rule.Slice.PartMut.{putMid, postOf, midOf}
+use native.Mathlib.Nat.{zero-add}
+use Rattle.octets.specs.Runs.{sameBytes, allZero, part, Bytes, paste, over}
+use Rattle.ledger.proofs.Lists.{each-take}
 
 -- ---- tests of runs
 
@@ -71,6 +62,18 @@ pub zero-more : (s : List ℕ) (i any : ℕ) → i < length s
 zero-more s i any h =
     rw (or-zero, add-one, drop-cons s i 0) (and-assoc (eqb any 0) (eqb (getD s i 0) 0) (allZero (drop (suc i) s)))
 
+-- zeros are bytes
+pub zero-bytes : (n : ℕ) → Bytes (replicate n 0)
+zero-bytes zero j = omega arith
+zero-bytes (suc n) zero = omega arith
+zero-bytes (suc n) (suc j) = zero-bytes n j
+
+-- the first of a run of zeros are zero
+pub zeros-pass : (k n : ℕ) (r : List ℕ) → k ≤ n → allZero (take k (replicate n 0 ++ r)) ≡ true
+zeros-pass zero n r h = refl
+zeros-pass (suc k) zero r h = absurd (omega arith)
+zeros-pass (suc k) (suc n) r h = zeros-pass k n r (omega arith)
+
 -- ---- a part of a list
 
 -- past the end there is none
@@ -81,6 +84,35 @@ part-past s at n h = ap (take n) (drop-of-length-le s h) ∙ take-nil n
 pub part-rest : (s : List ℕ) (at n : ℕ) → length s - at ≤ n → part s at n ≡ part s at (length s - at)
 part-rest s at n h =
     take-all n (drop at s) (omega (arith, length-drop at s)) ∙ sym (take-all (length s - at) (drop at s) (omega (arith, length-drop at s)))
+
+-- a part is no longer than asked for
+pub part-most : (s : List ℕ) (at n : ℕ) → length (part s at n) ≤ n
+part-most s at n = omega (arith, length-take n (drop at s))
+
+-- nor longer than the list
+pub part-within : (r : List ℕ) (at n : ℕ) → length (part r at n) ≤ length r
+part-within r at n = omega (arith, length-take n (drop at r), length-drop at r)
+
+-- a part that lies inside is as long as asked for
+pub part-length : (c : List ℕ) (at n : ℕ) → at + n ≤ length c → length (part c at n) ≡ n
+part-length c at n h = length-take-le n (drop at c) (omega (arith, length-drop at c))
+
+-- a part of bytes is bytes
+pub part-bytes : (c : List ℕ) (at n : ℕ) → Bytes c → Bytes (part c at n)
+part-bytes c at n h = each-take (λ (x : ℕ). x < 256) n (drop at c) 0 (λ k. rw getD-drop (h (at + k))) (omega arith)
+
+-- a part as two
+pub part-add : (c : List ℕ) (at n m : ℕ) → part c at (n + m) ≡ part c at n ++ part c (at + n) m
+part-add c at n m = take-add n m (drop at c) ∙ ap (λ (r : List ℕ). part c at n ++ take m r) (drop-drop n at c)
+
+-- a byte of a part, which is byte m of the whole
+pub part-byte : (c : List ℕ) (at n k m : ℕ) → k < n → at + k ≡ m → getD (part c at n) k 0 ≡ getD c m 0
+part-byte c at n k m h e = getD-take n (drop at c) k 0 h ∙ getD-drop at c k 0 ∙ ap (λ (j : ℕ). getD c j 0) e
+
+-- what stands before a part that was lent is kept
+pub kept-before : (x y : List ℕ) (k m n : ℕ) → k ≤ length x → k ≤ n → take k (take n (putMid k m x y)) ≡ take k x
+kept-before x y k m n h g =
+    take-take k n (putMid k m x y) g ∙ take-at (take k x) (y ++ postOf k m x) k (length-take-le k x h)
 
 -- ---- a run over a list from a place on
 
@@ -118,6 +150,32 @@ paste-middle p old new q n e m =
     (ap (take n) (append-assoc p old q) ∙ take-at p (old ++ q) n e)
     (drop-at (p ++ old) q (n + length new) (omega (arith, length-append p old)))
 
+-- bytes written from place 0 on are the start
+pub paste-begins : (x w : List ℕ) (k : ℕ) → length w ≡ k → take k (paste x 0 w) ≡ w
+paste-begins x w k e = take-at w (drop (0 + length w) x) k e
+
+-- nothing written
+pub paste-nothing : (x : List ℕ) (at : ℕ) → paste x at [] ≡ x
+paste-nothing x at =
+    let e : at + 0 ≡ at = omega arith in
+    ap (λ (l : List ℕ). l ++ drop (at + 0) x) (append-nil (take at x))
+    ∙ ap (λ (k : ℕ). take at x ++ drop k x) e
+    ∙ take-append-drop at x
+
+-- a run was written, and then another right behind it
+pub paste-then : {y z : List ℕ} {r : ℕ} (x : List ℕ) (at : ℕ) (p q : List ℕ) → at ≤ length x → y ≡ paste x at p → r ≡ at + length p → z ≡ paste y r q → z ≡ paste x at (p ++ q)
+paste-then x at p q h a b c = c ∙ rw (a, b) (sym (paste-join x at p q h))
+
+-- with the places behind them
+pub paste-after : {y z : List ℕ} {r e : ℕ} (x : List ℕ) (at : ℕ) (p q : List ℕ) → at ≤ length x
+    → (r ≡ at + length p) × (y ≡ paste x at p)
+    → (e ≡ r + length q) × (z ≡ paste y r q)
+    → (e ≡ at + length (p ++ q)) × (z ≡ paste x at (p ++ q))
+paste-after x at p q h a b = (omega (arith, a .0, b .0, length-append p q), paste-then x at p q h (a .1) (a .0) (b .1))
+
+pub paste-none : (out : List ℕ) (at : ℕ) → (at ≡ at + length {A = ℕ} []) × (out ≡ paste out at [])
+paste-none out at = (omega arith, sym (paste-nothing out at))
+
 -- ---- a room with bytes over its start
 
 -- bytes over what follows others, behind those
@@ -138,32 +196,17 @@ over-next {x} {y} p q l n ex en ey =
     let z : drop (length x - n) (drop n x) ≡ [] = ap (drop (length x - n)) b ∙ drop-of-length-le d k in
     rw (t, z, append-nil, ey, m) (over-over p q l)
 
--- ---- blocks
+-- they are the start
+pub over-begins : {x : List ℕ} (p l : List ℕ) (n : ℕ) → x ≡ over p l → n ≡ length p → take n x ≡ p
+over-begins p l n ex en = ap (take n) ex ∙ take-at p (drop (length p) l) n (sym en)
 
--- bytes behind those that a block holds
-pub pad-at : (l s : List ℕ) (n : ℕ) → length l ≡ n → n + length s ≤ 96 → paste (pad l) n s ≡ pad (l ++ s)
-pad-at l s n e h =
-    let m : 96 - length l ≡ length s + (96 - length (l ++ s)) = omega (arith, length-append l s) in
-    let room : pad l ≡ l ++ replicate (length s) 0 ++ replicate (96 - length (l ++ s)) 0 = rw (append-assoc, replicate-append-replicate, m) in
-    rw room (paste-middle l (replicate (length s) 0) s (replicate (96 - length (l ++ s)) 0) n e (length-replicate (length s) 0))
+-- bytes from place 0 on are bytes over the start
+pub paste-start : (s l : List ℕ) → paste l 0 s ≡ over s l
+paste-start s l = rw zero-add
 
--- a field takes four bytes
-pub flat-length : (l : List ℕ) → length (flat l) ≡ length l * 4
-flat-length [] = refl
-flat-length (x ∷ l) = omega (arith, flat-length l)
-
--- the bytes of one field more
-flat-snoc : (l : List ℕ) (x : ℕ) → flat (l ++ (x ∷ [])) ≡ flat l ++ be32 x
-flat-snoc [] x = refl
-flat-snoc (y ∷ l) x = ap (λ (r : List ℕ). be32 y ++ r) (flat-snoc l x)
-
--- a block with one field more
-pub flat-more : (w : List ℕ) (i : ℕ) → i < length w → i < 24
-    → paste (pad (flat (take i w))) (i * 4) (be32 (getD w i 0)) ≡ pad (flat (take (i + 1) w))
-flat-more w i h k =
-    let m : length (flat (take i w)) ≡ i * 4 = omega (arith, flat-length (take i w), length-take-le i w (omega arith)) in
-    rw (add-one, take-suc w i 0, flat-snoc) (pad-at (flat (take i w)) (be32 (getD w i 0)) (i * 4) m (omega arith))
-
--- a part is no longer than asked for
-pub part-most : (s : List ℕ) (at n : ℕ) → length (part s at n) ≤ n
-part-most s at n = omega (arith, length-take n (drop at s))
+-- bytes right behind those that stand at the start
+pub paste-next : {x : List ℕ} (p q l : List ℕ) (n : ℕ) → x ≡ over p l → length p ≡ n → paste x n q ≡ over (p ++ q) l
+paste-next p q l n ex en =
+    ap₂ (λ (y : List ℕ) (k : ℕ). paste y k q) (ex ∙ sym (paste-start p l)) (sym (zero-add (length p) ∙ en))
+    ∙ sym (paste-join l 0 p q (omega arith))
+    ∙ paste-start (p ++ q) l

@@ -1,0 +1,32 @@
+-- The bytes of records one behind the other: of one, of two runs of them, of a call's in order.
+use mathlib.Core.Path.{_≡_, refl, sym, ap, _∙_}
+use mathlib.Core.List.{[], _∷_, append-nil, List, _++_, append-assoc}
+use Prim.Native.Nat.{ℕ}
+use lib.ListN.{length}
+use Rattle.paper.specs.RecordsOut.{Record, bytesOf, allBytes, inOrder}
+use Rattle.octets.specs.Runs.{over}
+
+-- the bytes of one record, of two runs of records, of a call's records in order
+pub one-record : (r : Record) → allBytes (r ∷ []) ≡ bytesOf r
+one-record r = append-nil (bytesOf r)
+
+pub bytes-append : (a b : List Record) → allBytes (a ++ b) ≡ allBytes a ++ allBytes b
+bytes-append [] b = refl
+bytes-append (r ∷ a) b = ap (λ (l : List ℕ). bytesOf r ++ l) (bytes-append a b) ∙ sym (append-assoc (bytesOf r) (allBytes a) (allBytes b))
+
+pub bytes-in-order : (a f u : List Record) → allBytes (inOrder a f u) ≡ allBytes a ++ allBytes f ++ allBytes u
+unfolding inOrder
+bytes-in-order a f u = bytes-append (a ++ f) u ∙ ap (λ (l : List ℕ). l ++ allBytes u) (bytes-append a f)
+
+pub one-long : (r : Record) (n : ℕ) → n ≡ length (bytesOf r) → n ≡ length (allBytes (r ∷ []))
+one-long r n e = e ∙ ap length (sym (one-record r))
+
+pub one-over : (r : Record) (room room' : List ℕ) → room' ≡ over (bytesOf r) room → room' ≡ over (allBytes (r ∷ [])) room
+one-over r room room' e = e ∙ ap (λ (b : List ℕ). over b room) (sym (one-record r))
+
+-- one that is the same as the one to be written
+pub same-long : (r s : Record) → r ≡ s → (n : ℕ) → n ≡ length (bytesOf r) → n ≡ length (allBytes (s ∷ []))
+same-long r s e n h = one-long s n (h ∙ ap (λ (x : Record). length (bytesOf x)) e)
+
+pub same-over : (r s : Record) → r ≡ s → (room room' : List ℕ) → room' ≡ over (bytesOf r) room → room' ≡ over (allBytes (s ∷ [])) room
+same-over r s e room room' h = one-over s room room' (h ∙ ap (λ (x : Record). over (bytesOf x) room) e)
