@@ -81,9 +81,9 @@ module _ (rows : List StateRow) (f : RowsFit rows) (t : Table) (k : Sound t) whe
   served-good i x u h detaches = onward-good t i _ i _ k u x _ _ _ (passing i h fitsMoving (f .moving)) refl
   served-good i x u h (binds y) = bind-good t i _ i _ k u x _ _ _ _ (passing i h fitsBinding (f .binding)) y refl
   served-good i x u h unbinds = onward-good t i _ i _ k u x _ _ _ (passing i h fitsMoving (f .moving)) refl
-  served-good i x u h (connects a b) = onward-good t i _ i _ k u x _ _ _ (passing i h fitsMoving (f .moving)) refl
-  served-good i x u h (acceptsHere w y) = accept-here t k i u x _ w (loses-row i connectRes _ h refl w) _ i _ (Nothing ∷ []) refl refl refl y
-  served-good i x u h (acceptsOn w y) = accept-on t k i u x _ w (loses-row i connectRes _ h refl w) _ _ _ (Nothing ∷ []) refl refl y
+  served-good i x u h (connects a) = onward-good t i _ i _ k u x _ _ _ (passing i h fitsMoving (f .moving)) refl
+  served-good i x u h (acceptsHere w y) = accept-here t k i u x _ (w .numberOpen) (loses-row i connectRes _ h refl (w .numberOpen)) _ i _ (Nothing ∷ []) refl refl refl y
+  served-good i x u h (acceptsOn w y) = accept-on t k i u x _ (w .numberOpen) (loses-row i connectRes _ h refl (w .numberOpen)) _ _ _ (Nothing ∷ []) refl refl y
   served-good i x u h (denies e w) = less-good t k i u x _ w (loses-row i disconnectReq _ h refl w) _ i _ _ _ _ Denied (Nothing ∷ []) (rw (open-nonzero t k i _ w)) refl
   served-good i x u h (disconnects e z) = onward-good t i _ i _ k u x _ _ _ (of-asks _ _ (passing i h fitsDisconnecting (f .disconnecting)) (ap not e)) refl
   served-good i x u h resets = onward-good t i _ i _ k u x _ _ _ (passing i h fitsMoving (f .moving)) refl

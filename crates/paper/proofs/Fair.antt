@@ -1,13 +1,13 @@
--- What the order of errors has shown of a request that it serves: each rule that does not fail has shown its opposite. One walk of the
--- order, for whoever needs it.
-use Prim.Native.Nat.{ℕ, suc, _+_, _-_, _≤_, _<_, min}
+-- What the order of errors has shown of a request: of one that it serves, the opposite of each rule; of one that a rule fails, that this
+-- rule applies. One walk of the order, for whoever needs it.
+use Prim.Native.Nat.{ℕ, suc, _+_, _-_, _%_, _≤_, _<_, min}
 use native.Mathlib.Omega.{arith}
 use mathlib.Core.Path.{_≡_, refl, sym}
 use mathlib.Core.Bool.{Bool, true, false, false≢true}
 use mathlib.Core.List.{List}
 use lib.ListN.{length}
 use lib.Dec.{eqb, ltb, leb}
-use borrow.Author.Tests.{eqb-true, eqb-false, ltb-false, le-leb, not-false}
+use borrow.Author.Tests.{eqb-true, eqb-false, ltb-true, ltb-false, le-leb, not-true, not-false}
 use Rattle.ledger.specs.Choice.{pick, both, either, _⇒_∣_}
 use Rattle.ledger.specs.Tally.{has}
 use Rattle.ledger.proofs.Tallies.{picked, chosen, either-no}
@@ -30,6 +30,7 @@ use Rattle.paper.specs.declared.Primitive.the-variants as primitive
 use Rattle.paper.specs.declared.Request.{Request}
 use Rattle.paper.specs.declared.Request.the-variants as request
 use Rattle.paper.specs.declared.Rule.{Rule}
+use Rattle.paper.specs.declared.Rule.the-variants as rule
 use Rattle.paper.specs.declared.Carrier.{Carrier}
 use Rattle.paper.specs.declared.Carrier.the-variants.{Itself, Other, None}
 use Rattle.paper.specs.declared.Service.{Service}
@@ -54,6 +55,20 @@ pub record MayBind (t : Table) (i : ℕ) (b : BindRequest) : Type 0 where
   -- where it will listen, nobody else does
   pub unheard : both (eqb (b .mode) 1) (both (ltb 0 (b .most)) (isListenedFor t (stream t i .ppa) (b .sap))) ≡ false
 
+-- a connect that may be, in message m: its address lies behind the fields and within the message
+pub record MayConnect (m : List ℕ) (a : ConnectRequest) : Type 0 where
+  pub noQos : a .qos ≡ 0
+  pub seven : a .length ≡ 7
+  pub behind : 24 ≤ a .offset
+  pub inside : a .offset + 7 ≤ length m
+  pub even : eqb (a .last % 2) 1 ≡ false
+
+-- an accept, of stream i, of a number that is open there, and with no QOS, whose token names this carrier
+pub record Offers (t : Table) (i : ℕ) (a : ConnectResponse) (c : Carrier) : Type 0 where
+  pub numberOpen : has (a .correlation .0) (waiting t i) ≡ true
+  pub noQos : a .qos ≡ 0
+  pub names : carrierOf t i (a .token) ≡ c
+
 -- another stream c that may carry a call of stream i
 pub record MayCarry (t : Table) (i c : ℕ) : Type 0 where
   pub isOpen : slot t c .isOpen ≡ true
@@ -70,12 +85,11 @@ pub data Fair (t : Table) (i : ℕ) (m : List ℕ) : Request → ℕ → Service
   detaches : Fair t i m request.Detach i service.Detach
   binds : {b : BindRequest} → MayBind t i b → Fair t i m (request.Bind b) i (service.Bind (b .mode) (b .sap) (grantOf (b .mode) (b .most)))
   unbinds : Fair t i m request.Unbind i service.Unbind
-  -- the address lies behind the fields and within the message
-  connects : {a : ConnectRequest} → 24 ≤ a .offset → a .offset + 7 ≤ length m → Fair t i m (request.Connect a) i (service.Connect (a .offset))
-  -- The number is open here: the only one where this stream is to carry the call, or another stream may.
-  acceptsHere : {a : ConnectResponse} → has (a .correlation .0) (waiting t i) ≡ true → length (waiting t i) ≤ 1
+  connects : {a : ConnectRequest} → MayConnect m a → Fair t i m (request.Connect a) i (service.Connect (a .offset))
+  -- the only one open, where this stream is to carry the call; or another stream may
+  acceptsHere : {a : ConnectResponse} → Offers t i a Itself → length (waiting t i) ≤ 1
       → Fair t i m (request.ConnectRes a) i (service.Accept (a .correlation))
-  acceptsOn : {a : ConnectResponse} {c : ℕ} → has (a .correlation .0) (waiting t i) ≡ true → MayCarry t i c
+  acceptsOn : {a : ConnectResponse} {c : ℕ} → Offers t i a (Other c (stream t c)) → MayCarry t i c
       → Fair t i m (request.ConnectRes a) c (service.Accept (a .correlation))
   denies : {d : DisconnectRequest} → isIn 9 (stream t i) ≡ true → has (d .correlation .0) (waiting t i) ≡ true
       → Fair t i m (request.Disconnect d) i (service.Deny (d .correlation) (d .reason))
@@ -83,6 +97,42 @@ pub data Fair (t : Table) (i : ℕ) (m : List ℕ) : Request → ℕ → Service
       → Fair t i m (request.Disconnect d) i (service.Disconnect (d .reason))
   resets : Fair t i m request.Reset i service.Reset
   answersReset : Fair t i m request.ResetRes i service.ResetRes
+
+-- ---- what a request that a rule fails has shown
+
+-- Rule w fails request q of stream i: it applies. (In step 6 no earlier one does.)
+pub data Faulty (t : Table) (i : ℕ) : Request → Rule → Type 0 where
+  -- 3. ATTACH
+  unknownPpa : {p : PpaNumber} → knows t p ≡ false → Faulty t i (request.Attach p) rule.UnknownPpa
+  -- 4. BIND
+  unknownMode : {b : BindRequest} → either (eqb (b .mode) 1) (eqb (b .mode) 2) ≡ false → Faulty t i (request.Bind b) rule.UnknownMode
+  managed : {b : BindRequest} → eqb (b .management) 0 ≡ false → Faulty t i (request.Bind b) rule.Management
+  automatic : {b : BindRequest} → eqb (b .xidtest) 0 ≡ false → Faulty t i (request.Bind b) rule.AutomaticXid
+  notAllowed : {b : BindRequest} → either (isSap (b .sap)) (isType (b .sap)) ≡ false → Faulty t i (request.Bind b) rule.SapNotAllowed
+  typed : {b : BindRequest} → both (eqb (b .mode) 1) (isType (b .sap)) ≡ true → Faulty t i (request.Bind b) rule.TypeInModeOne
+  listenedFor : {b : BindRequest} → both (eqb (b .mode) 1) (both (ltb 0 (b .most)) (isListenedFor t (stream t i .ppa) (b .sap))) ≡ true
+      → Faulty t i (request.Bind b) rule.ListenedFor
+  -- 5. CONNECT_REQ
+  connectQos : {a : ConnectRequest} → eqb (a .qos) 0 ≡ false → Faulty t i (request.Connect a) rule.ConnectQos
+  notSeven : {a : ConnectRequest} → eqb (a .length) 7 ≡ false → Faulty t i (request.Connect a) rule.AddressLength
+  tooEarly : {a : ConnectRequest} → a .offset < 24 → Faulty t i (request.Connect a) rule.AddressTooEarly
+  tooLate : {a : ConnectRequest} → a .size < a .offset + 7 → Faulty t i (request.Connect a) rule.AddressTooLate
+  odd : {a : ConnectRequest} → eqb (a .last % 2) 1 ≡ true → Faulty t i (request.Connect a) rule.AddressSapOdd
+  -- 6. CONNECT_RES
+  notOpen : {a : ConnectResponse} → has (a .correlation .0) (waiting t i) ≡ false → Faulty t i (request.ConnectRes a) rule.AcceptNotOpen
+  acceptQos : {a : ConnectResponse} → has (a .correlation .0) (waiting t i) ≡ true → eqb (a .qos) 0 ≡ false → Faulty t i (request.ConnectRes a) rule.AcceptQos
+  othersOpen : {a : ConnectResponse} → Offers t i a Itself → 1 < length (waiting t i) → Faulty t i (request.ConnectRes a) rule.OthersOpen
+  ofNone : {a : ConnectResponse} → Offers t i a None → Faulty t i (request.ConnectRes a) rule.TokenOfNone
+  notIdle : {a : ConnectResponse} {c : ℕ} → Offers t i a (Other c (stream t c)) → isIn 6 (stream t c) ≡ false → Faulty t i (request.ConnectRes a) rule.CarrierNotIdle
+  otherPpa : {a : ConnectResponse} {c : ℕ} → Offers t i a (Other c (stream t c)) → isIn 6 (stream t c) ≡ true
+      → eqb (stream t c .ppa .0) (stream t i .ppa .0) ≡ false → Faulty t i (request.ConnectRes a) rule.CarrierOfOtherPpa
+  connectionless : {a : ConnectResponse} {c : ℕ} → Offers t i a (Other c (stream t c)) → isIn 6 (stream t c) ≡ true
+      → eqb (stream t c .mode) 2 ≡ true → Faulty t i (request.ConnectRes a) rule.CarrierConnectionless
+  -- 7. DISCONNECT_REQ
+  denialNotOpen : {d : DisconnectRequest} → isIn 9 (stream t i) ≡ true → has (d .correlation .0) (waiting t i) ≡ false
+      → Faulty t i (request.Disconnect d) rule.DenialNotOpen
+  notZero : {d : DisconnectRequest} → isIn 9 (stream t i) ≡ false → eqb (d .correlation .0) 0 ≡ false
+      → Faulty t i (request.Disconnect d) rule.NumberNotZero
 
 -- ---- what a bind that may be leaves
 
@@ -193,16 +243,16 @@ module _ (m : List ℕ) where
 
 -- ---- the walk
 
--- a verdict on request q: a rule that fails, or a fair service
+-- a verdict on request q: a rule that fails it, or a fair service
 pub data Judged (t : Table) (i : ℕ) (m : List ℕ) (q : Request) (c : ℕ) : Verdict → Type 0 where
-  fails : {w : Rule} → Judged t i m q c (Fails w)
+  fails : {w : Rule} → Faulty t i q w → Judged t i m q c (Fails w)
   serves : {v : Service} → Fair t i m q c v → Judged t i m q c (Serves v)
 
--- an order of tests, of which each verdict is such: a test that does not apply has shown its opposite
+-- an order of tests, of which each verdict is such: a test has shown itself, or its opposite
 infixr 5 _⟹_∣_
-_⟹_∣_ : {t : Table} {i : ℕ} {m : List ℕ} {q : Request} {c : ℕ} (b : Bool) {v w : Verdict} → Judged t i m q c v → (b ≡ false → Judged t i m q c w)
-    → Judged t i m q c (b ⇒ v ∣ w)
-_⟹_∣_ {t} {i} {m} {q} {c} b h g = chosen (Judged t i m q c) b _ _ (λ e. h) g
+_⟹_∣_ : {t : Table} {i : ℕ} {m : List ℕ} {q : Request} {c : ℕ} (b : Bool) {w : Rule} {v : Verdict} → (b ≡ true → Faulty t i q w)
+    → (b ≡ false → Judged t i m q c v) → Judged t i m q c (b ⇒ Fails w ∣ v)
+_⟹_∣_ {t} {i} {m} {q} {c} b h g = chosen (Judged t i m q c) b _ _ (λ e. fails (h e)) g
 
 module _ (t : Table) (i : ℕ) (m : List ℕ) where
   -- what the token of an accept names: this stream, or another that is open
@@ -218,13 +268,14 @@ module _ (t : Table) (i : ℕ) (m : List ℕ) where
       other : (eqb (k .0) 0 ≡ false) × (eqb (k .0) (suc i) ≡ false) → k .0 - 1 ≡ i → ⊥
       other e z = let a : k .0 ≡ 0 → ⊥ = eqb-false (k .0) 0 (e .0) in let b : k .0 ≡ suc i → ⊥ = eqb-false (k .0) (suc i) (e .1) in omega arith
 
-  fair-carrier : (a : ConnectResponse) → has (a .correlation .0) (waiting t i) ≡ true → (c : Carrier) → Named c
+  fair-carrier : (a : ConnectResponse) (c : Carrier) → Named c → Offers t i a c
       → Judged t i m (request.ConnectRes a) (carrierAt i c) (judgeCarrier (stream t i) (a .correlation) (length (waiting t i)) c)
   unfolding judgeCarrier judgeItself judgeOther
-  fair-carrier a h Itself itself = _ ⟹ fails ∣ (λ e. serves (acceptsHere h (ltb-false _ _ e)))
-  fair-carrier a h None nobody = fails
-  fair-carrier a h (Other _ _) (another c o d) = _ ⟹ fails ∣ (λ n. _ ⟹ fails ∣ (λ p. _ ⟹ fails ∣ (λ e. serves (acceptsOn h
-      (record { isOpen = o; other = d; idle = not-false _ n; samePpa = eqb-true _ _ (not-false _ p); notConnectionless = e })))))
+  fair-carrier a Itself itself f = _ ⟹ (λ y. othersOpen f (ltb-true _ _ y)) ∣ (λ n. serves (acceptsHere f (ltb-false _ _ n)))
+  fair-carrier a None nobody f = fails (ofNone f)
+  fair-carrier a (Other _ _) (another c o d) f =
+      _ ⟹ (λ y. notIdle f (not-true _ y)) ∣ (λ n. _ ⟹ (λ y. otherPpa f (not-false _ n) (not-true _ y)) ∣ (λ p. _ ⟹ connectionless f (not-false _ n) ∣ (λ e.
+      serves (acceptsOn f (record { isOpen = o; other = d; idle = not-false _ n; samePpa = eqb-true _ _ (not-false _ p); notConnectionless = e })))))
 
   -- every verdict on a request that message m asks for, by any row
   pub fair : (x : StateRow) (q : Request) → Asks m q
@@ -232,16 +283,23 @@ module _ (t : Table) (i : ℕ) (m : List ℕ) where
   unfolding answerTo judgeRequest judgeAttach judgeBind judgeListening judgeConnect judgeAccept judgeDisconnect judgeDenial
   fair x request.Info s = serves informs
   fair x request.Token s = serves tellsToken
-  fair x (request.Attach p) s = _ ⟹ fails ∣ (λ k. serves (attaches (not-false _ k)))
+  fair x (request.Attach p) s = _ ⟹ (λ y. unknownPpa (not-true _ y)) ∣ (λ k. serves (attaches (not-false _ k)))
   fair x request.Detach s = serves detaches
-  fair x (request.Bind b) s = _ ⟹ fails ∣ (λ o. _ ⟹ fails ∣ (λ n. _ ⟹ fails ∣ (λ a. _ ⟹ fails ∣ (λ p. _ ⟹ fails ∣ (λ u. _ ⟹ fails ∣ (λ h. serves (binds
+  fair x (request.Bind b) s =
+      _ ⟹ (λ y. unknownMode (not-true _ y)) ∣ (λ o. _ ⟹ (λ y. managed (not-true _ y)) ∣ (λ n. _ ⟹ (λ y. automatic (not-true _ y)) ∣ (λ a.
+      _ ⟹ (λ y. notAllowed (not-true _ y)) ∣ (λ p. _ ⟹ typed ∣ (λ u. _ ⟹ listenedFor ∣ (λ h. serves (binds
       (record { moded = not-false _ o; unmanaged = eqb-true _ _ (not-false _ n); unautomatic = eqb-true _ _ (not-false _ a); allowed = not-false _ p; untyped = u; unheard = h }))))))))
   fair x request.Unbind s = serves unbinds
-  fair x (request.Connect a) s = _ ⟹ fails ∣ (λ _. _ ⟹ fails ∣ (λ _. _ ⟹ fails ∣ (λ f. _ ⟹ fails ∣ (λ g. _ ⟹ fails ∣ (λ _.
-      let u : a .offset + 7 ≤ a .size = ltb-false _ _ g in serves (connects (ltb-false _ _ f) (omega (arith, s .measured))))))))
-  fair x (request.ConnectRes a) s = _ ⟹ fails ∣ (λ h. _ ⟹ fails ∣ (λ _. fair-carrier a (not-false _ h) (carrierOf t i (a .token)) (named (a .token))))
+  fair x (request.Connect a) s =
+      _ ⟹ (λ y. connectQos (not-true _ y)) ∣ (λ n. _ ⟹ (λ y. notSeven (not-true _ y)) ∣ (λ l. _ ⟹ (λ y. tooEarly (ltb-true _ _ y)) ∣ (λ f.
+      _ ⟹ (λ y. tooLate (ltb-true _ _ y)) ∣ (λ g. _ ⟹ odd ∣ (λ e.
+      let u : a .offset + 7 ≤ a .size = ltb-false _ _ g in
+      serves (connects (record { noQos = eqb-true _ _ (not-false _ n); seven = eqb-true _ _ (not-false _ l); behind = ltb-false _ _ f; inside = omega (arith, s .measured); even = e })))))))
+  fair x (request.ConnectRes a) s =
+      _ ⟹ (λ y. notOpen (not-true _ y)) ∣ (λ h. _ ⟹ (λ y. acceptQos (not-false _ h) (not-true _ y)) ∣ (λ n.
+      fair-carrier a (carrierOf t i (a .token)) (named (a .token)) (record { numberOpen = not-false _ h; noQos = eqb-true _ _ (not-false _ n); names = refl })))
   fair x (request.Disconnect d) s = chosen (Judged t i m (request.Disconnect d) i) _ _ _
-      (λ e. _ ⟹ fails ∣ (λ h. serves (denies e (not-false _ h))))
-      (λ e. _ ⟹ fails ∣ (λ z. serves (disconnects e (eqb-true _ _ (not-false _ z)))))
+      (λ e. _ ⟹ (λ y. denialNotOpen e (not-true _ y)) ∣ (λ h. serves (denies e (not-false _ h))))
+      (λ e. _ ⟹ (λ y. notZero e (not-true _ y)) ∣ (λ z. serves (disconnects e (eqb-true _ _ (not-false _ z)))))
   fair x request.Reset s = serves resets
   fair x request.ResetRes s = serves answersReset

@@ -62,9 +62,6 @@ read-long r =
 pub adds-long : (r : List ℕ) (p : PpaNumber) → inputOf r ≡ input.AddPpa p → 11 ≤ length r
 adds-long r p e = subst (λ (q : Input). leastSize q ≤ length r) e (read-long r)
 
-pub arrives-long : (r : List ℕ) (p : PpaNumber) (sap : ℕ) → inputOf r ≡ input.CallArrives p sap → 19 ≤ length r
-arrives-long r p sap e = subst (λ (q : Input). leastSize q ≤ length r) e (read-long r)
-
 -- a record lies within the bytes that it starts
 pub record-within : (r : List ℕ) → recordSize r ≤ length r
 unfolding recordSize

@@ -16,11 +16,11 @@ pub mode-fits : (n : ℕ) → either (eqb n 1) (eqb n 2) ≡ true → n < 256
 mode-fits n h = of-either (eqb n 1) (eqb n 2) h (λ e. omega (arith, eqb-true n 1 e)) (λ e. omega (arith, eqb-true n 2 e))
 
 -- a SAP has one byte and a type two
-pub sap-under : (n : ℕ) → isSap n ≡ true → n < 65536
+sap-under : (n : ℕ) → isSap n ≡ true → n < 65536
 unfolding isSap
 sap-under n e = omega (arith, ltb-true n 256 (both-of _ _ e .0))
 
-pub type-under : (n : ℕ) → isType n ≡ true → n < 65536
+type-under : (n : ℕ) → isType n ≡ true → n < 65536
 unfolding isType
 type-under n e =
     let f = both-of (leb 0x600 n) (both (leb n 0xffff) (not (has n reservedTypes))) e .1 in

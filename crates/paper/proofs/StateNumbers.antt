@@ -16,7 +16,7 @@ use Rattle.paper.specs.declared.Stream.{Stream}
 -- ---- the numbers
 
 -- what holds of the eight numbers holds of a state's
-pub each-number : (P : ℕ → Type 0) → P 0 → P 3 → P 6 → P 8 → P 9 → P 11 → P 12 → P 13 → (q : State) → P (numberOf q)
+each-number : (P : ℕ → Type 0) → P 0 → P 3 → P 6 → P 8 → P 9 → P 11 → P 12 → P 13 → (q : State) → P (numberOf q)
 each-number P a b d e f g h i Unattached = a
 each-number P a b d e f g h i Unbound = b
 each-number P a b d e f g h i Idle = d

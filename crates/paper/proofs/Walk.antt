@@ -109,7 +109,7 @@ module _ (rows : List StateRow) (t : Table) where
         → verdictOn rows t i m (For q) ≡ v → Judged t i m q c v
         → Replied rows t i m (For q) (done t i c m (effectBy (At x) (tokenOf i) (codeIn m) (stream t i) v))
     unfolding effectBy enacted changed carried told ordersIn upsIn behindReply inOrder
-    answered-by q x c (Fails w) h e fails = failing e
+    answered-by q x c (Fails w) h e (fails f) = failing e
     answered-by q x c (Serves v) h e (serves f) = serving e h f
 
     -- a request, by the row found
@@ -200,12 +200,12 @@ module _ (rows : List StateRow) (t : Table) where
       step-walk e = step-by (Way rows t r (inputOf r)) e (λ n some small. refusing some small) (λ _ _. walk (inputOf r))
 
       -- What holds on each way, and of refusal 16, holds of every call, whatever the table.
-      pub any-walk : (P : Outcome → Type 0) → P (refused t notSound) → ((o : Outcome) → Way rows t r (inputOf r) o → P o) → P (stepBy rows t r room)
+      pub any-walk : (P : Outcome → Type 0) → (sound t ≡ false → P (refused t notSound)) → ((o : Outcome) → Way rows t r (inputOf r) o → P o) → P (stepBy rows t r room)
       any-walk P f g = go (sound t) refl
         where
           go : (b : Bool) → sound t ≡ b → P (stepBy rows t r room)
           go true e = g _ (step-walk e)
-          go false e = subst P (sym (unsound e)) f
+          go false e = subst P (sym (unsound e)) (f e)
 
       -- ---- a message that no refusal stands before: it comes to its stream, and is answered
 

@@ -13,6 +13,7 @@ use Rattle.paper.specs.Step.{step}
 use Rattle.paper.specs.declared.Asked.the-variants.{For}
 use Rattle.paper.specs.ErrorOrder.{verdictOn}
 use Rattle.fates_book.specs.Book.{Opening, openCount, tallies, countIn, openOf, newest, posts, countOf, howMany}
+use Rattle.paper.proofs.Fair.{asks}
 use Rattle.promises.proofs.Named.{names-accept, names-denial, open-denied}
 use Rattle.fates_book.specs.declared.End.the-variants.{Accepted, Denied, Withdrawn, Dropped}
 use Rattle.fates_book.proofs.Counts.{count-at, indications-counted, met-counted, sums, none-left}
@@ -139,7 +140,7 @@ pub accept-may-name : (x : Harness) (c : Lending) (s : ℕ) (a : ConnectResponse
     → not (has badCorr (errorsHeard x c)) ≡ has (a .correlation .0) (openBy s (heardIn x))
 accept-may-name x c s a m h =
     ap (λ (l : List ℕ). not (has badCorr l)) (errors-told x c s (request.ConnectRes a) m)
-    ∙ names-accept (tableIn x) s (agreed x s .sound) (in-nine-by x s h) (messageIn (c .bytes) (m .size)) a
+    ∙ names-accept (tableIn x) s (agreed x s .sound) (in-nine-by x s h) (messageIn (c .bytes) (m .size)) a (asks _ (m .asks))
     ∙ ap (has (a .correlation .0)) (sym (agreed x s .now))
 
 pub denial-may-name : (x : Harness) (c : Lending) (s : ℕ) (d : DisconnectRequest)
@@ -147,7 +148,7 @@ pub denial-may-name : (x : Harness) (c : Lending) (s : ℕ) (d : DisconnectReque
     → not (has badCorr (errorsHeard x c)) ≡ has (d .correlation .0) (openBy s (heardIn x))
 denial-may-name x c s d m h =
     ap (λ (l : List ℕ). not (has badCorr l)) (errors-told x c s (request.Disconnect d) m)
-    ∙ names-denial (tableIn x) s (agreed x s .sound) (in-nine-by x s h) (messageIn (c .bytes) (m .size)) d
+    ∙ names-denial (tableIn x) s (agreed x s .sound) (in-nine-by x s h) (messageIn (c .bytes) (m .size)) d (asks _ (m .asks))
     ∙ ap (has (d .correlation .0)) (sym (agreed x s .now))
 
 pub open-may-be-accepted : (x : Harness) (c : Lending) (s : ℕ) (a : ConnectResponse)
@@ -162,7 +163,7 @@ pub open-is-denied : (x : Harness) (c : Lending) (s : ℕ) (d : DisconnectReques
 open-is-denied x c s d m h =
     let n : isIn 9 (stream (tableIn x) s) ≡ true = in-nine-by x s (has-some (d .correlation .0) (openBy s (heardIn x)) h) in
     errors-told x c s (request.Disconnect d) m
-    ∙ ap errorsBy (open-denied (tableIn x) s (agreed x s .sound) n (messageIn (c .bytes) (m .size)) d (ap (has (d .correlation .0)) (sym (agreed x s .now)) ∙ h))
+    ∙ open-denied (tableIn x) s (agreed x s .sound) n (messageIn (c .bytes) (m .size)) d (asks _ (m .asks)) (ap (has (d .correlation .0)) (sym (agreed x s .now)) ∙ h)
 
 -- And no other one is ever named: where a record ends an indication, an `a`, a `d` with a number or a DISCONNECT_IND with one, it
 -- was open on that stream by the records before it.

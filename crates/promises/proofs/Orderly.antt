@@ -3,7 +3,7 @@
 -- is enacted as an effect, and each of these holds of any effect: so one walk of the ways of a call shows them all.
 use Prim.Native.Nat.{ℕ, suc, _*_, _<_, _≤_}
 use native.Mathlib.Omega.{arith}
-use mathlib.Core.Path.{_≡_, refl, sym, ap, subst, _∙_}
+use mathlib.Core.Path.{_≡_, refl, sym, ap, _∙_}
 use mathlib.Core.Bool.{Bool, true, false, not, false≢true}
 use mathlib.Core.List.{List, [], _∷_, _++_, map}
 use lib.ListN.{length, getD}
@@ -37,7 +37,7 @@ use Rattle.paper.specs.declared.Request.{Request}
 use Rattle.paper.specs.declared.StateRow.{StateRow}
 use Rattle.paper.specs.declared.Stream.{Stream}
 use Rattle.paper.proofs.Fair.{Fair, informs, tellsToken, attaches, detaches, binds, unbinds, connects, acceptsHere, acceptsOn, denies, disconnects, resets, answersReset}
-use Rattle.paper.proofs.Walk.{done, failing, serving, Brings, arriving, accepted, gone, withdrawn, reset, confirmed, Way, refusing, adding, opening, closing, answering, bringing, unsound, step-walk}
+use Rattle.paper.proofs.Walk.{done, failing, serving, Brings, arriving, accepted, gone, withdrawn, reset, confirmed, Way, refusing, adding, opening, closing, answering, bringing, any-walk}
 use Rattle.keeping.specs.Soundness.{Sound}
 use Rattle.keeping.proofs.Changes.{eight}
 use Rattle.promises.specs.History.{opensStream, closesStream, openAfter}
@@ -158,10 +158,10 @@ module _ (t : Table) (r : List ℕ) (i l : ℕ) (m : List ℕ) (mine : isMessage
   proper-service x detaches = record { orders = omega arith; says = refl }
   proper-service x (binds b) = record { orders = omega arith; says = mine }
   proper-service x unbinds = record { orders = omega arith; says = refl }
-  proper-service x (connects {a} h g) =
-      record { orders = (record { sized = part-length m (a .offset) 7 g; opened = omega arith; may = refl }, omega arith); says = refl }
-  proper-service x (acceptsHere h g) = record { orders = (record { sized = refl; opened = h; may = mine }, omega arith); says = refl }
-  proper-service x (acceptsOn h g) = record { orders = (record { sized = refl; opened = h; may = mine }, omega arith); says = refl }
+  proper-service x (connects {a} h) =
+      record { orders = (record { sized = part-length m (a .offset) 7 (h .inside); opened = omega arith; may = refl }, omega arith); says = refl }
+  proper-service x (acceptsHere h g) = record { orders = (record { sized = refl; opened = h .numberOpen; may = mine }, omega arith); says = refl }
+  proper-service x (acceptsOn h g) = record { orders = (record { sized = refl; opened = h .numberOpen; may = mine }, omega arith); says = refl }
   proper-service x (denies {d} e h) =
       let n : ℕ = d .correlation .0 in
       record { orders = (record { sized = refl; opened = either-right (eqb n 0) _ h; may = may-end r i n Denied mine }, omega arith); says = refl }
@@ -277,9 +277,5 @@ module _ (rows : List StateRow) (t : Table) (r : List ℕ) where
       of-silent t r q i i r _ (event-silent x (stream t i) e) (proper-event t r x b l) (no-X t r b l)
 
   pub orderly : (room : ℕ) → Orderly t r (inputOf r) (stepBy rows t r room)
-  orderly room = go (sound t) refl
-    where
-      go : (b : Bool) → sound t ≡ b → Orderly t r (inputOf r) (stepBy rows t r room)
-      go true e = on-each-way (step-walk rows t r room e) (letter r)
-      go false e =
-          subst (Orderly t r (inputOf r)) (sym (unsound rows t r room e)) (of-refusal t r (inputOf r) (omega arith) (omega arith) (λ z. absurd (false≢true (sym e ∙ z))))
+  orderly room = any-walk rows t r room (Orderly t r (inputOf r))
+      (λ e. of-refusal t r (inputOf r) (omega arith) (omega arith) (λ z. absurd (false≢true (sym e ∙ z)))) (λ o w. on-each-way w (letter r))
