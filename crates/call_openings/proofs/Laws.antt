@@ -12,13 +12,14 @@ use borrow.Author.Tests.{ltb-true, ltb-false, not-true}
 use Rattle.ledger.specs.Choice.{_⇒_∣_}
 use Rattle.ledger.specs.Tally.{oneIf, sumOf, firstOf}
 use Rattle.ledger.proofs.Tallies.{first-holds, first-none, none-first}
+use Rattle.ledger.proofs.Lists.{joined-append}
 use Rattle.paper.specs.Base.{Slot, Table, slot, closed, lowestFree}
 use Rattle.paper.specs.RecordsOut.{Record, order, bytesOf, allBytes}
 use Rattle.paper.specs.Refusals.{servedOpening}
 use Rattle.paper.specs.Openings.{goodbye}
 use Rattle.paper.specs.declared.Correlation.{Correlation}
 use Rattle.paper.specs.declared.LineOrder.the-variants as lineOrder
-use Rattle.paper.proofs.RecordsOut.{one-record, bytes-append}
+use Rattle.paper.proofs.RecordsOut.{one-record}
 use Rattle.table_image.specs.Layout.{imageOf}
 use Rattle.table_image.specs.Shape.{Shaped}
 use Rattle.call_outcomes.specs.Leaving.{left, leaving}
@@ -72,6 +73,6 @@ goodbyes-next i k w c h e =
     let old : List Record = map (goodbye i) (take k w) in
     ap (λ (q : Correlation). allBytes old ++ bytesOf (order i (lineOrder.Disconnect q 0) [])) e
     ∙ ap (λ (b : List ℕ). allBytes old ++ b) (sym (one-record (goodbye i (getD w k 0))))
-    ∙ sym (bytes-append old (goodbye i (getD w k 0) ∷ []))
+    ∙ sym (joined-append bytesOf old (goodbye i (getD w k 0) ∷ []))
     ∙ ap allBytes (sym (map-append (goodbye i) (take k w) (getD w k 0 ∷ [])))
     ∙ ap (λ (l : List ℕ). allBytes (map (goodbye i) l)) (sym (take-suc w k 0 h) ∙ ap (λ (m : ℕ). take m w) z)

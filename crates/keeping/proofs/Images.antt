@@ -11,6 +11,8 @@ use native.Mathlib.Omega.{arith}
 use borrow.Author.Tests.{eq-eqb, ne-eqb, le-leb}
 use Rattle.ledger.specs.Tally.{occ, allOf}
 use Rattle.ledger.proofs.Tallies.{both-of, to-both, at-all, chosen, one-most, sum-none}
+use Rattle.ledger.specs.Lists.{listed, joined}
+use Rattle.ledger.proofs.Lists.{each-listed}
 use Rattle.octets.specs.Numbers.{be32At}
 use Rattle.octets.specs.Runs.{Bytes, part, allZero}
 use Rattle.octets.specs.Blocks.{flat}
@@ -23,9 +25,8 @@ use Rattle.paper.specs.Sound.{sound}
 use Rattle.paper.specs.Step.{step}
 use Rattle.paper.specs.declared.Ppa.{Ppa}
 use Rattle.paper.proofs.StateNumbers.{in-every}
-use Rattle.table_image.specs.Layout.{ppaBase, slotBase, listed, ppaFrom, waitingFrom, slotAt, ppaAt, tableOf, joined, ppaBytes, streamBytes, waitingBytes, slotBytes, headerBytes, imageOf, isState, tidySlot, slotParts, tidyPpas, tidy, soundImage}
+use Rattle.table_image.specs.Layout.{ppaBase, slotBase, ppaFrom, waitingFrom, slotAt, ppaAt, tableOf, ppaBytes, streamBytes, waitingBytes, slotBytes, headerBytes, imageOf, isState, tidySlot, slotParts, tidyPpas, tidy, soundImage}
 use Rattle.table_image.specs.Shape.{Shaped}
-use Rattle.table_image.proofs.Joined.{each-listed}
 use Rattle.table_image.proofs.Shapes.{ppas-length, image-length}
 use Rattle.table_image.proofs.TableBack.{slot-part, table-back}
 use Rattle.table_image.proofs.TidyImage.{tidy-parts, shaped-table}

@@ -11,15 +11,17 @@ use borrow.Author.Tests.{ltb-true, lt-ltb, eq-eqb}
 use Rattle.ledger.specs.Tally.{oneIf, occ}
 use Rattle.ledger.proofs.Tallies.{both-of, to-both, at-all}
 use Rattle.ledger.proofs.Sums.{sum-at}
+use Rattle.ledger.specs.Lists.{joined}
 use Rattle.octets.specs.Numbers.{be16, be32}
-use Rattle.octets.specs.Blocks.{flat}
+use Rattle.octets.specs.Blocks.{flat, padTo}
+use Rattle.octets.specs.Runs.{areBytes}
 use Rattle.paper.specs.Base.{numberOf, isIn, isAmong, boundStates, Slot, closed, Table, slot, stream, waiting, ppaNumbers, noPpa}
 use Rattle.paper.specs.Correlations.{occurrences}
 use Rattle.paper.specs.declared.Stream.{Stream}
 use Rattle.paper.specs.declared.Ppa.{Ppa}
 use Rattle.paper.proofs.StateNumbers.{state-byte}
 use Rattle.paper.proofs.Saps.{bind-small}
-use Rattle.table_image.specs.Layout.{padTo, joined, maskOf, ppaBytes, streamBytes, waitingBytes, slotBytes, headerBytes, imageOf, areBytes}
+use Rattle.table_image.specs.Layout.{maskOf, ppaBytes, streamBytes, waitingBytes, slotBytes, headerBytes, imageOf}
 use Rattle.table_image.specs.Shape.{Shaped}
 use Rattle.keeping.specs.Soundness.{Sound}
 use Rattle.keeping.proofs.Changes.{eight}

@@ -1,10 +1,11 @@
 -- The elements of a list by their places: after a change, in a part, of a list that is made.
 use Prim.Native.Nat.{ℕ, zero, suc, _<_, _+_}
-use mathlib.Core.Path.{_≡_, refl, ap, _∙_}
-use mathlib.Core.List.{List, [], _∷_, map, _++_}
+use mathlib.Core.Path.{_≡_, refl, ap, _∙_, sym}
+use mathlib.Core.List.{List, [], _∷_, map, _++_, append-assoc, append-nil}
 use lib.ListN.{getD, replicate, length, set, drop, length-set, take}
 use native.Mathlib.Omega.{arith}
-use lib.Seq.{drop-cons, drop-set-lt, getD-set-same, getD-append-add}
+use lib.Seq.{drop-cons, drop-set-lt, getD-set-same, getD-append-add, ext-getD}
+use Rattle.ledger.specs.Lists.{listed, joined}
 
 -- an element of a list through a function
 pub map-at : {A B : Type 0} (f : A → B) (d : A) (l : List A) (k : ℕ) → getD (map f l) k (f d) ≡ f (getD l k d)
@@ -56,3 +57,53 @@ module _ {A : Type 0} where
   each-take P (suc n) [] d h p i = p
   each-take P (suc n) (x ∷ l) d h p zero = h 0
   each-take P (suc n) (x ∷ l) d h p (suc i) = each-take P n l d (λ j. h (suc j)) p i
+
+-- ---- a list that a function gives
+
+module _ {A : Type 0} where
+  -- its length
+  pub listed-length : (f : ℕ → A) (i n : ℕ) → length (listed f i n) ≡ n
+  listed-length f i zero = refl
+  listed-length f i (suc n) = ap suc (listed-length f (suc i) n)
+
+  -- its elements
+  pub listed-at : (f : ℕ → A) (i n k : ℕ) (d : A) → k < n → getD (listed f i n) k d ≡ f (i + k)
+  listed-at f i zero k d h = absurd (omega arith)
+  listed-at f i (suc n) zero d h = let e : i ≡ i + 0 = omega arith in ap f e
+  listed-at f i (suc n) (suc k) d h =
+      let e : suc i + k ≡ i + suc k = omega arith in
+      listed-at f (suc i) n k d (omega arith) ∙ ap f e
+
+  -- a list whose elements a function gives
+  pub listed-back : (f : ℕ → A) (l : List A) (n : ℕ) (d : A) → length l ≡ n → ((k : ℕ) → k < n → f k ≡ getD l k d) → listed f 0 n ≡ l
+  listed-back f l n d e h =
+      ext-getD d (listed f 0 n) l (listed-length f 0 n ∙ sym e) λ k b.
+      let c : k < n = omega (arith, listed-length f 0 n) in
+      let z : 0 + k ≡ k = omega arith in
+      listed-at f 0 n k d c ∙ ap f z ∙ h k c
+
+  -- what holds of a function's values holds of each element
+  pub each-listed : (P : A → Type 0) (f : ℕ → A) (i n : ℕ) (d : A) → ((k : ℕ) → k < i + n → P (f k)) → P d
+      → (k : ℕ) → P (getD (listed f i n) k d)
+  each-listed P f i zero d h p k = p
+  each-listed P f i (suc n) d h p zero = h i (omega arith)
+  each-listed P f i (suc n) d h p (suc k) = each-listed P f (suc i) n d (λ j b. h j (omega arith)) p k
+
+-- ---- pieces laid end to end
+
+module _ {A B : Type 0} (f : A → List B) where
+  -- of two lists
+  pub joined-append : (l m : List A) → joined f (l ++ m) ≡ joined f l ++ joined f m
+  joined-append [] m = refl
+  joined-append (x ∷ l) m =
+      ap (λ (r : List B). f x ++ r) (joined-append l m) ∙ sym (append-assoc (f x) (joined f l) (joined f m))
+
+  -- one piece more
+  pub joined-more : (l : List A) (x : A) → joined f (l ++ (x ∷ [])) ≡ joined f l ++ f x
+  joined-more l x = joined-append l (x ∷ []) ∙ ap (λ (r : List B). joined f l ++ r) (append-nil (f x))
+
+  -- an element replaced by one with the same piece
+  pub joined-kept : (d : A) (l : List A) (k : ℕ) (x : A) → f x ≡ f (getD l k d) → joined f (set l k x) ≡ joined f l
+  joined-kept d [] k x e = refl
+  joined-kept d (y ∷ l) zero x e = ap (λ (r : List B). r ++ joined f l) e
+  joined-kept d (y ∷ l) (suc k) x e = ap (λ (r : List B). f y ++ r) (joined-kept d l k x e)

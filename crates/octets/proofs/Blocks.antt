@@ -1,7 +1,7 @@
 -- Blocks: what they hold, and what is written behind it.
 use Prim.Native.Nat.{ℕ, _*_, _+_, _-_, _≤_, _<_}
 use native.Mathlib.Omega.{arith}
-use mathlib.Core.Path.{_≡_, refl, ap}
+use mathlib.Core.Path.{_≡_, refl}
 use mathlib.Core.List.{List, [], _∷_, _++_, append-assoc}
 use lib.ListN.{length, length-append, replicate, length-replicate, replicate-append-replicate, getD, take}
 use native.Mathlib.Numerals.{add-one}
@@ -10,16 +10,12 @@ use Rattle.octets.specs.Blocks.{flat, pad}
 use Rattle.octets.specs.Numbers.{be32}
 use Rattle.octets.specs.Runs.{paste}
 use Rattle.octets.proofs.Runs.{paste-middle}
+use Rattle.ledger.proofs.Lists.{joined-append}
 
 -- a field takes four bytes
 pub flat-length : (l : List ℕ) → length (flat l) ≡ length l * 4
 flat-length [] = refl
 flat-length (x ∷ l) = omega (arith, flat-length l)
-
--- the fields of two lists, one behind the other
-pub flat-append : (l m : List ℕ) → flat (l ++ m) ≡ flat l ++ flat m
-flat-append [] m = refl
-flat-append (x ∷ l) m = ap (λ (r : List ℕ). be32 x ++ r) (flat-append l m)
 
 -- fields of four bytes each, other bytes behind them
 pub content-length : (fields tail : List ℕ) → length (flat fields ++ tail) ≡ length fields * 4 + length tail
@@ -41,4 +37,4 @@ pub flat-more : (w : List ℕ) (i : ℕ) → i < length w → i < 24
     → paste (pad (flat (take i w))) (i * 4) (be32 (getD w i 0)) ≡ pad (flat (take (i + 1) w))
 flat-more w i h k =
     let m : length (flat (take i w)) ≡ i * 4 = omega (arith, flat-length (take i w), length-take-le i w (omega arith)) in
-    rw (add-one, take-suc w i 0, flat-append) (pad-at (flat (take i w)) (be32 (getD w i 0)) (i * 4) m (omega arith))
+    rw (add-one, take-suc w i 0, joined-append be32) (pad-at (flat (take i w)) (be32 (getD w i 0)) (i * 4) m (omega arith))

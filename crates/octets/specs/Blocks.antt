@@ -1,14 +1,18 @@
 -- Blocks of 96 bytes: fields of four bytes each, other bytes behind them, then zeros.
 use Prim.Native.Nat.{ℕ, _-_}
-use mathlib.Core.List.{List, [], _∷_, _++_}
+use mathlib.Core.List.{List, _++_}
 use lib.ListN.{length, replicate}
 use Rattle.octets.specs.Numbers.{be32}
+use Rattle.ledger.specs.Lists.{joined}
 
 -- numbers, each as four bytes
 abbrev pub flat : List ℕ → List ℕ
-flat [] = []
-flat (w ∷ ws) = be32 w ++ flat ws
+flat ws = joined be32 ws
 
--- bytes, then zeros up to 96
+-- bytes, then zeros up to n
+abbrev pub padTo : ℕ → List ℕ → List ℕ
+padTo n l = l ++ replicate (n - length l) 0
+
+-- a block
 abbrev pub pad : List ℕ → List ℕ
-pad l = l ++ replicate (96 - length l) 0
+pad l = padTo 96 l

@@ -3,11 +3,16 @@ use Prim.Native.Nat.{ℕ, _+_, _<_}
 use mathlib.Core.List.{List, [], _∷_, _++_}
 use mathlib.Core.Bool.{Bool, true, false, _&&_}
 use lib.ListN.{length, getD, take, drop}
-use lib.Dec.{eqb}
+use lib.Dec.{eqb, ltb}
+use Rattle.ledger.specs.Tally.{allOf}
 
 -- each number of a list is a byte
 abbrev pub Bytes : List ℕ → Type 0
 Bytes l = (k : ℕ) → getD l k 0 < 256
+
+-- as a test (what C lends always are bytes; a list may hold any numbers)
+abbrev pub areBytes : List ℕ → Bool
+areBytes l = allOf (λ (n : ℕ). ltb n 256) l
 
 -- n bytes of a list from a place on
 abbrev pub part : List ℕ → ℕ → ℕ → List ℕ

@@ -1,22 +1,19 @@
 -- The bytes of records one behind the other: of one, of two runs of them, of a call's in order.
-use mathlib.Core.Path.{_≡_, refl, sym, ap, _∙_}
-use mathlib.Core.List.{[], _∷_, append-nil, List, _++_, append-assoc}
+use mathlib.Core.Path.{_≡_, sym, ap, _∙_}
+use mathlib.Core.List.{[], _∷_, append-nil, List, _++_}
 use Prim.Native.Nat.{ℕ}
 use lib.ListN.{length}
 use Rattle.paper.specs.RecordsOut.{Record, bytesOf, allBytes, inOrder}
 use Rattle.octets.specs.Runs.{over}
+use Rattle.ledger.proofs.Lists.{joined-append}
 
 -- the bytes of one record, of two runs of records, of a call's records in order
 pub one-record : (r : Record) → allBytes (r ∷ []) ≡ bytesOf r
 one-record r = append-nil (bytesOf r)
 
-pub bytes-append : (a b : List Record) → allBytes (a ++ b) ≡ allBytes a ++ allBytes b
-bytes-append [] b = refl
-bytes-append (r ∷ a) b = ap (λ (l : List ℕ). bytesOf r ++ l) (bytes-append a b) ∙ sym (append-assoc (bytesOf r) (allBytes a) (allBytes b))
-
 pub bytes-in-order : (a f u : List Record) → allBytes (inOrder a f u) ≡ allBytes a ++ allBytes f ++ allBytes u
 unfolding inOrder
-bytes-in-order a f u = bytes-append (a ++ f) u ∙ ap (λ (l : List ℕ). l ++ allBytes u) (bytes-append a f)
+bytes-in-order a f u = joined-append bytesOf (a ++ f) u ∙ ap (λ (l : List ℕ). l ++ allBytes u) (joined-append bytesOf a f)
 
 pub one-long : (r : Record) (n : ℕ) → n ≡ length (bytesOf r) → n ≡ length (allBytes (r ∷ []))
 one-long r n e = e ∙ ap length (sym (one-record r))

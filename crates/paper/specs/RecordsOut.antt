@@ -5,6 +5,7 @@ use mathlib.Core.List.{List, [], _∷_, _++_}
 use lib.ListN.{length}
 use lib.Dec.{eqb}
 use Rattle.ledger.specs.Choice.{pick, either, _⇒_∣_}
+use Rattle.ledger.specs.Lists.{joined}
 use Rattle.octets.specs.Numbers.{be32}
 use Rattle.octets.specs.Blocks.{pad}
 use Rattle.paper.specs.Replies.{goesAsC, contentOf}
@@ -37,8 +38,7 @@ bytesOf (up s reply tail) = messageBytes (goesAsC reply) s (contentOf reply tail
 
 -- Each record is written right behind the one before it.
 abbrev pub allBytes : List Record → List ℕ
-allBytes [] = []
-allBytes (r ∷ rs) = bytesOf r ++ allBytes rs
+allBytes rs = joined bytesOf rs
 
 -- F where it is due
 abbrev pub flushIf : Bool → ℕ → List Record

@@ -7,8 +7,8 @@ use Rattle.paper.specs.Base.{Table}
 use Rattle.paper.specs.RecordsOut.{allBytes}
 use Rattle.paper.specs.Refusals.{Outcome}
 use Rattle.paper.specs.Step.{step}
-use Rattle.table_image.specs.Layout.{areBytes}
 use Rattle.promises.specs.History.{Answered}
+use Rattle.octets.specs.Runs.{areBytes}
 
 -- a call: the bytes lent and the room's length
 pub record Call : Type 0 where

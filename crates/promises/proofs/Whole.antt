@@ -5,7 +5,7 @@ use mathlib.Core.List.{List, [], _∷_, _++_, map, append-nil}
 use lib.ListN.{length}
 use native.Mathlib.Omega.{arith}
 use Rattle.ledger.specs.Choice.{_⇒_∣_}
-use Rattle.table_image.specs.Layout.{joined}
+use Rattle.ledger.specs.Lists.{joined}
 use Rattle.fates_book.specs.declared.Line.{Line}
 use Rattle.fates_book.specs.Lines.{lineAt, openingLines, linesOf}
 use Rattle.fates_book.proofs.Said.{said}

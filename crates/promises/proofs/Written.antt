@@ -2,7 +2,7 @@
 -- the three, once.
 use Prim.Native.Nat.{ℕ, _+_, _*_, _≤_}
 use native.Mathlib.Omega.{arith}
-use mathlib.Core.Path.{_≡_, refl}
+use mathlib.Core.Path.{_≡_, refl, _∙_, ap}
 use mathlib.Core.Bool.{Bool, true, false}
 use mathlib.Core.List.{List, [], _∷_, _++_, append-nil}
 use lib.ListN.{length, length-append}
@@ -10,6 +10,7 @@ use lib.Dec.{eqb}
 use Rattle.ledger.specs.Choice.{pick, either}
 use Rattle.ledger.specs.Tally.{has}
 use Rattle.ledger.proofs.Tallies.{picked}
+use Rattle.ledger.proofs.Lists.{joined-append}
 use Rattle.octets.specs.Runs.{part}
 use Rattle.octets.proofs.Runs.{part-most}
 use Rattle.paper.specs.Base.{Slot, Table, waiting}
@@ -98,8 +99,7 @@ abbrev pub size : List Record → ℕ
 size rs = length (allBytes rs)
 
 size-append : (a b : List Record) → size (a ++ b) ≡ size a + size b
-size-append [] b = omega arith
-size-append (r ∷ a) b = omega (arith, length-append (bytesOf r) (allBytes (a ++ b)), length-append (bytesOf r) (allBytes a), size-append a b)
+size-append a b = ap length (joined-append bytesOf a b) ∙ length-append (allBytes a) (allBytes b)
 
 -- ---- one effect on stream i, where stream c carries
 

@@ -8,6 +8,7 @@ use lib.ListN.{length, getD}
 use lib.Dec.{eqb}
 use Rattle.ledger.specs.Choice.{both, _⇒_∣_}
 use Rattle.ledger.specs.Tally.{has}
+use Rattle.ledger.specs.Lists.{joined}
 use Rattle.octets.specs.Numbers.{be32At}
 use Rattle.paper.specs.Base.{isIn, Table, slot, waiting}
 use Rattle.paper.specs.Messages.{askedBy}
@@ -15,7 +16,6 @@ use Rattle.paper.specs.RecordsIn.{inputOf, messageIn}
 use Rattle.paper.specs.StateRows.{found}
 use Rattle.paper.specs.Sight.{requestAsks, carrierOf}
 use Rattle.paper.specs.ErrorOrder.{verdictOn}
-use Rattle.table_image.specs.Layout.{joined}
 use Rattle.paper.specs.RecordsOut.{isMessage}
 use Rattle.fates_book.specs.Lines.{recordsIn}
 use Rattle.paper.specs.declared.Input.the-variants as input

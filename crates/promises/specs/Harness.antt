@@ -6,12 +6,13 @@ use mathlib.Core.Bool.{true}
 use mathlib.Core.List.{List, [], _∷_, _++_}
 use lib.ListN.{length, take}
 use Rattle.paper.specs.Base.{Table}
-use Rattle.table_image.specs.Layout.{tableOf, areBytes}
+use Rattle.table_image.specs.Layout.{tableOf}
 use Rattle.call_outcomes.specs.Leaving.{Left, refusalIn, tokenIn, writtenIn, callOf}
 use Rattle.call_outcomes.specs.Fresh.{freshOf}
 use Rattle.paper.specs.declared.Request.{Request}
 use Rattle.promises.specs.Answers.{errorsTold, Complete}
 use Rattle.promises.specs.History.{Answered}
+use Rattle.octets.specs.Runs.{areBytes}
 
 -- what is lent to a call besides the image: the bytes that it reads, and the room
 pub record Lending : Type 0 where

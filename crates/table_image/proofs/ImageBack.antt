@@ -10,17 +10,20 @@ use lib.Dec.{eqb, eqb·suc-zero}
 use borrow.Author.Tests.{ltb-true, eqb-true}
 use Rattle.ledger.specs.Choice.{_⇒_∣_}
 use Rattle.ledger.specs.Tally.{oneIf, occ}
+use Rattle.ledger.specs.Lists.{listed, joined}
+use Rattle.ledger.proofs.Lists.{listed-length, listed-back}
 use Rattle.octets.specs.Numbers.{be16At, be32At, be16, be32}
 use Rattle.octets.specs.Runs.{Bytes, part}
 use Rattle.octets.proofs.Runs.{part-length, part-bytes, part-add}
 use Rattle.octets.proofs.Numbers.{be32At-part, be16-back, be32-back}
+use Rattle.octets.specs.Blocks.{padTo}
 use Rattle.paper.specs.Base.{numberOf, Slot, stateOf, everyState}
 use Rattle.paper.specs.declared.State.{State}
 use Rattle.paper.specs.declared.State.the-variants.{Unbound, Idle, OutconPending, InconPending, DataXfer, UserResetPending, ProvResetPending}
-use Rattle.table_image.specs.Layout.{ppaBase, slotBase, listed, bit, ppaFrom, streamFrom, waitingFrom, maskIn, slotAt, ppaAt, tableOf, padTo, joined, maskOf, ppaBytes, streamBytes, waitingBytes, slotBytes, headerBytes, imageOf, isState, tidy}
+use Rattle.table_image.specs.Layout.{ppaBase, slotBase, bit, ppaFrom, streamFrom, waitingFrom, maskIn, slotAt, ppaAt, tableOf, maskOf, ppaBytes, streamBytes, waitingBytes, slotBytes, headerBytes, imageOf, isState, tidy}
 use Rattle.table_image.proofs.Bits.{mask-only}
-use Rattle.table_image.proofs.Joined.{listed-length, listed-back, joined-listed, pad-listed}
-use Rattle.table_image.proofs.TableBack.{slot-at, flat-joined}
+use Rattle.octets.proofs.Pieces.{joined-listed, pad-listed}
+use Rattle.table_image.proofs.TableBack.{slot-at}
 use Rattle.table_image.proofs.TidyImage.{TidySlot, Tidy, tidy-parts}
 
 -- the first bytes of a list, one by one
@@ -87,7 +90,7 @@ module _ (c : List ℕ) (h : Bytes c) where
         let g : ℕ → ℕ = λ k. be32At c (k * 4 + 10) in
         let p : padTo 32 (joined be32 (listed g 0 n)) ≡ part c 10 32 =
         pad-listed be32 g c 4 10 n 32 (λ k b. number-again (k * 4 + 10) (omega (arith, t .eight))) (omega (arith, t .eight)) (omega arith) (t .unused) in
-        rw flat-joined (λ i. listed-length g 0 n i ∷ p i)
+        (λ i. listed-length g 0 n i ∷ p i)
 
     slot-again : streamBytes (streamFrom c) ++ waitingBytes (waitingFrom c) ≡ c
     slot-again =

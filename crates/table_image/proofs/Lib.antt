@@ -1,6 +1,5 @@
 -- Laws of the table's image that this crate's proofs and its callers' cite.
 pub mod Bits
-pub mod Joined
 pub mod Shapes
 pub mod Stored
 pub mod TableBack

@@ -9,10 +9,11 @@ use Rattle.octets.proofs.Blocks.{flat-length}
 use Rattle.paper.specs.Base.{Slot, Table, slot, waiting, closed, justOpened, noPpa, withSlot, withStream, withNumbers, withCounter, withPpa, remembering}
 use Rattle.paper.specs.declared.Stream.{Stream}
 use Rattle.paper.specs.declared.Ppa.{Ppa}
-use Rattle.table_image.specs.Layout.{joined, ppaBytes, streamBytes, waitingBytes, slotBytes, headerBytes, imageOf}
+use Rattle.table_image.specs.Layout.{ppaBytes, streamBytes, waitingBytes, slotBytes, headerBytes, imageOf}
 use Rattle.table_image.specs.Shape.{Shaped}
-use Rattle.table_image.proofs.Joined.{joined-length, pad-length}
+use Rattle.octets.proofs.Pieces.{joined-length, pad-length}
 use Rattle.ledger.proofs.Lists.{each-set, each-more}
+use Rattle.ledger.specs.Lists.{joined}
 
 -- ---- lengths
 

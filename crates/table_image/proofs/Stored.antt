@@ -6,15 +6,18 @@ use mathlib.Core.Bool.{Bool, true}
 use mathlib.Core.List.{List, [], _∷_, _++_, append-nil}
 use lib.ListN.{length, set, replicate, length-append}
 use Rattle.ledger.specs.Tally.{oneIf}
+use Rattle.ledger.specs.Lists.{joined}
+use Rattle.ledger.proofs.Lists.{joined-more, joined-kept}
 use Rattle.octets.specs.Numbers.{be16, be32}
 use Rattle.octets.specs.Runs.{paste}
+use Rattle.octets.specs.Blocks.{padTo}
 use Rattle.paper.specs.Base.{Slot, Table, slot, stream, waiting, closed, justOpened, withSlot, withStream, withNumbers, withCounter, withPpa, remembering}
 use Rattle.paper.specs.declared.Stream.{Stream}
 use Rattle.paper.specs.declared.Ppa.{Ppa}
-use Rattle.table_image.specs.Layout.{ppaBase, slotBase, padTo, joined, maskOf, ppaBytes, streamBytes, waitingBytes, slotBytes, headerBytes, imageOf}
+use Rattle.table_image.specs.Layout.{ppaBase, slotBase, maskOf, ppaBytes, streamBytes, waitingBytes, slotBytes, headerBytes, imageOf}
 use Rattle.table_image.specs.Shape.{Shaped}
 use Rattle.table_image.proofs.Bits.{mask-kept, mask-opened, mask-closed}
-use Rattle.table_image.proofs.Joined.{joined-more, joined-kept, joined-paste, pad-more}
+use Rattle.octets.proofs.Pieces.{joined-paste, pad-more}
 use Rattle.table_image.proofs.Shapes.{stream-length, slot-length, slots-wide, ppas-length, header-length}
 
 -- the first eight bytes: a mask, a memory of openings, a count of PPAs, a counter

@@ -8,6 +8,8 @@ use lib.ListN.{length, getD, replicate}
 use lib.Seq.{take-all}
 use lib.Dec.{eqb}
 use Rattle.ledger.specs.Tally.{oneIf}
+use Rattle.ledger.specs.Lists.{listed, joined}
+use Rattle.ledger.proofs.Lists.{listed-at, listed-back}
 use Rattle.octets.specs.Numbers.{be32At, be32}
 use Rattle.octets.specs.Runs.{part}
 use Rattle.octets.specs.Blocks.{flat}
@@ -16,10 +18,10 @@ use Rattle.paper.specs.Base.{Slot, Table, slot, closed, noPpa}
 use Rattle.paper.specs.declared.Stream.{Stream}
 use Rattle.paper.specs.declared.Ppa.{Ppa}
 use Rattle.paper.proofs.StateNumbers.{state-back}
-use Rattle.table_image.specs.Layout.{ppaBase, slotBase, listed, bit, ppaFrom, streamFrom, waitingFrom, maskIn, slotAt, ppaAt, tableOf, joined, maskOf, ppaBytes, streamBytes, waitingBytes, slotBytes, headerBytes, imageOf}
+use Rattle.table_image.specs.Layout.{ppaBase, slotBase, bit, ppaFrom, streamFrom, waitingFrom, maskIn, slotAt, ppaAt, tableOf, maskOf, ppaBytes, streamBytes, waitingBytes, slotBytes, headerBytes, imageOf}
 use Rattle.table_image.specs.Shape.{Shaped}
 use Rattle.table_image.proofs.Bits.{mask-bit}
-use Rattle.table_image.proofs.Joined.{listed-at, listed-back, joined-at}
+use Rattle.octets.proofs.Pieces.{joined-at}
 use Rattle.table_image.proofs.Shapes.{slots-wide, ppas-wide, header-length}
 use Rattle.table_image.proofs.Stored.{firstBytes}
 
@@ -45,11 +47,6 @@ stream-back s r =
       granted = s .granted;
     }
 
--- numbers are pieces of four bytes
-pub flat-joined : (w : List ℕ) → flat w ≡ joined be32 w
-flat-joined [] = refl
-flat-joined (n ∷ w) = ap (λ (r : List ℕ). be32 n ++ r) (flat-joined w)
-
 waiting-back : (s : Stream) (w : List ℕ) → waitingFrom (streamBytes s ++ waitingBytes w) ≡ w
 unfolding waitingFrom streamBytes waitingBytes
 waiting-back s w =
@@ -58,7 +55,6 @@ waiting-back s w =
     let zeros : List ℕ = replicate (32 - length (flat w)) 0 in
     listed-back (λ k. be32At c (k * 4 + 10)) w (length w) 0 refl λ k h.
     sym (be32At-part c (k * 4 + 10))
-    ∙ ap (λ (r : List ℕ). be32At (part (first ++ (r ++ zeros)) (k * 4 + 10) 4) 0) (flat-joined w)
     ∙ ap (λ (r : List ℕ). be32At r 0) (joined-at be32 0 4 first 10 w k refl (λ i. refl) h zeros)
     ∙ be32At-be32 (getD w k 0) []
 

@@ -10,14 +10,14 @@ use borrow.Author.Tests.{ltb-true, leb-true, eqb-true}
 use Rattle.ledger.specs.Choice.{both}
 use Rattle.ledger.specs.Tally.{allOf}
 use Rattle.ledger.proofs.Tallies.{both-of, all-within}
+use Rattle.ledger.proofs.Lists.{listed-length, listed-at, each-listed}
 use Rattle.octets.specs.Numbers.{be32At}
-use Rattle.octets.specs.Runs.{part, allZero}
+use Rattle.octets.specs.Runs.{part, allZero, areBytes}
 use Rattle.octets.proofs.Runs.{part-length}
 use Rattle.paper.specs.Base.{Slot, closed, noPpa}
 use Rattle.paper.specs.declared.Ppa.{Ppa}
-use Rattle.table_image.specs.Layout.{imageSize, ppaBase, slotBase, ppaFrom, waitingFrom, slotAt, ppaAt, tableOf, isState, tidySlot, slotParts, tidyPpas, areBytes, tidy}
+use Rattle.table_image.specs.Layout.{imageSize, ppaBase, slotBase, ppaFrom, waitingFrom, slotAt, ppaAt, tableOf, isState, tidySlot, slotParts, tidyPpas, tidy}
 use Rattle.table_image.specs.Shape.{Shaped}
-use Rattle.table_image.proofs.Joined.{listed-length, listed-at, each-listed}
 
 -- ---- the tests' parts
 

@@ -1,14 +1,15 @@
 -- The image of a table, byte by byte (docs/IMAGE.md): what table an image holds, and the image of a table.
-use Prim.Native.Nat.{ℕ, zero, suc, _+_, _-_, _*_, _/_, _%_, _^_}
+use Prim.Native.Nat.{ℕ, _+_, _-_, _*_, _/_, _%_, _^_}
 use mathlib.Core.Bool.{Bool, not}
 use mathlib.Core.List.{List, [], _∷_, _++_}
-use lib.ListN.{length, getD, replicate}
-use lib.Dec.{eqb, ltb, leb}
+use lib.ListN.{length, getD}
+use lib.Dec.{eqb, leb}
 use Rattle.ledger.specs.Choice.{both}
 use Rattle.ledger.specs.Tally.{oneIf, has, allOf}
+use Rattle.ledger.specs.Lists.{listed, joined}
 use Rattle.octets.specs.Numbers.{be16At, be32At, be16, be32}
-use Rattle.octets.specs.Runs.{part, allZero}
-use Rattle.octets.specs.Blocks.{flat}
+use Rattle.octets.specs.Runs.{part, allZero, areBytes}
+use Rattle.octets.specs.Blocks.{flat, padTo}
 use Rattle.paper.specs.Base.{numberOf, stateOf, Slot, Table, everyState}
 use Rattle.paper.specs.Sound.{sound}
 use Rattle.paper.specs.declared.Stream.{Stream}
@@ -26,11 +27,6 @@ abbrev pub slotBase : ℕ → ℕ
 slotBase i = i * 42 + 88
 
 -- ---- what table an image holds
-
--- what a function gives for n numbers from i on
-abbrev pub listed : {A : Type 0} → (ℕ → A) → ℕ → ℕ → List A
-listed f i zero = []
-listed f i (suc n) = f i ∷ listed f (suc i) n
 
 -- bit i of a mask
 abbrev pub bit : ℕ → ℕ → ℕ
@@ -72,13 +68,6 @@ tableOf img =
     }
 
 -- ---- the image of a table: what is unused is zero
-
-abbrev pub padTo : ℕ → List ℕ → List ℕ
-padTo n l = l ++ replicate (n - length l) 0
-
-abbrev pub joined : {A : Type 0} → (A → List ℕ) → List A → List ℕ
-joined f [] = []
-joined f (x ∷ l) = f x ++ joined f l
 
 -- bit i is 1 exactly if stream i is closed
 abbrev pub maskOf : List Slot → ℕ
@@ -122,10 +111,6 @@ slotParts img = listed (λ i. part img (slotBase i) 42) 0 16
 -- the unused places for PPAs
 abbrev pub tidyPpas : List ℕ → Bool
 tidyPpas img = both (leb (getD img 3 0) 8) (allZero (part img (ppaBase (getD img 3 0)) (80 - getD img 3 0 * 10)))
-
--- bytes, as what C lends always are: a list may hold any numbers
-abbrev pub areBytes : List ℕ → Bool
-areBytes l = allOf (λ (n : ℕ). ltb n 256) l
 
 unfoldable pub tidy : List ℕ → Bool
 tidy img =

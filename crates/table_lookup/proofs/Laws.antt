@@ -8,13 +8,13 @@ use lib.ListN.{length, getD}
 use lib.Dec.{eqb, ltb}
 use Rattle.ledger.specs.Choice.{both}
 use Rattle.ledger.proofs.Tallies.{within}
+use Rattle.ledger.proofs.Lists.{listed-length, listed-at}
 use Rattle.paper.specs.Base.{Slot, Table, slot, closed, noPpa}
 use Rattle.paper.specs.Saps.{listens}
 use Rattle.paper.specs.declared.PpaNumber.{PpaNumber}
 use Rattle.paper.specs.declared.Stream.{Stream}
 use Rattle.table_image.specs.Layout.{ppaAt, tableOf}
 use Rattle.table_image.specs.Shape.{Shaped}
-use Rattle.table_image.proofs.Joined.{listed-at, listed-length}
 
 -- ---- who listens
 

@@ -8,18 +8,20 @@ use lib.ListN.{length, getD, take, drop, set, replicate, length-append, length-d
 use lib.Seq.{take-at, drop-at, take-all, drop-cons, split-at, length-take-le}
 use Rattle.octets.specs.Numbers.{be32At, be32}
 use Rattle.octets.specs.Runs.{part, paste}
-use Rattle.octets.specs.Blocks.{flat}
+use Rattle.octets.specs.Blocks.{flat, padTo}
 use Rattle.octets.proofs.Runs.{part-length, part-add, paste-join}
 use Rattle.octets.proofs.Numbers.{part-be32}
-use Rattle.octets.proofs.Blocks.{flat-length, flat-append}
+use Rattle.octets.proofs.Blocks.{flat-length}
 use Rattle.paper.specs.Base.{Slot, Table, slot, stream, waiting, withNumbers}
 use Rattle.paper.specs.declared.Stream.{Stream}
-use Rattle.table_image.specs.Layout.{slotBase, listed, waitingFrom, slotAt, tableOf, padTo, joined, streamBytes, waitingBytes, slotBytes, imageOf}
+use Rattle.table_image.specs.Layout.{slotBase, waitingFrom, slotAt, tableOf, streamBytes, waitingBytes, slotBytes, imageOf}
 use Rattle.table_image.specs.Lent.{Lent}
-use Rattle.table_image.proofs.Joined.{listed-length, listed-at, pad-length, pad-more}
+use Rattle.octets.proofs.Pieces.{pad-length, pad-more}
 use Rattle.table_image.proofs.Shapes.{stream-length}
 use Rattle.table_image.proofs.Stored.{store-numbers}
 use Rattle.table_image.proofs.TableBack.{slot-at, slot-part}
+use Rattle.ledger.specs.Lists.{listed, joined}
+use Rattle.ledger.proofs.Lists.{listed-length, listed-at, joined-append}
 
 -- ---- in an image
 
@@ -89,7 +91,7 @@ more-bytes w n h =
     let p : paste (first ++ padTo 32 (flat w)) at (be32 n) ≡ first ++ padTo 32 (flat w ++ be32 n) =
     simp append-nil at (pad-more first (flat w) (be32 n) [] 32 at (omega (arith, flat-length w)) (omega (arith, flat-length w))) in
     let c : length w + 1 ≡ length (w ++ (n ∷ [])) = omega (arith, length-append w (n ∷ [])) in
-    ap (λ (r : List ℕ). set r 0 (length w + 1)) p ∙ ap₂ (λ (k : ℕ) (r : List ℕ). k ∷ padTo 32 r) c (sym (flat-append w (n ∷ [])))
+    ap (λ (r : List ℕ). set r 0 (length w + 1)) p ∙ ap₂ (λ (k : ℕ) (r : List ℕ). k ∷ padTo 32 r) c (sym (joined-append be32 w (n ∷ [])))
 
 -- the bytes around those of the number at a place, zeros behind them, and the count without it
 pub less-bytes : (w : List ℕ) (k : ℕ) → k < length w → length w ≤ 8
@@ -105,7 +107,7 @@ less-bytes w k h g =
     let z : List ℕ = flat (drop (suc k) w) in
     let o : List ℕ = replicate (32 - length (flat w)) 0 in
     let first : List ℕ = length w ∷ a in
-    let f : flat w ≡ a ++ (x ++ z) = ap flat (split-at w k 0 h) ∙ flat-append (take k w) (getD w k 0 ∷ drop (suc k) w) in
+    let f : flat w ≡ a ++ (x ++ z) = ap flat (split-at w k 0 h) ∙ joined-append be32 (take k w) (getD w k 0 ∷ drop (suc k) w) in
     let s : waitingBytes w ≡ first ++ (x ++ (z ++ o)) = ap (λ (r : List ℕ). length w ∷ (r ++ o)) f ∙ simp append-assoc in
     let n : length first ≡ at = omega (arith, flat-length (take k w), length-take-le k w (omega arith)) in
     let m : length (z ++ o) ≡ 28 - k * 4 =
@@ -121,7 +123,7 @@ less-bytes w k h g =
     ∙ (let e : 0 + length (first ++ (z ++ o)) ≡ 29 = omega (arith, length-append first (z ++ o)) in ap (λ (i : ℕ). (first ++ (z ++ o)) ++ drop i room) e) in
     let u : 32 - length (a ++ z) ≡ 32 - length (flat w) + 4 = omega (arith, length-append a z, length-append a (x ++ z), ap length f, flat-length w) in
     let v : (a ++ (z ++ o)) ++ replicate 4 0 ≡ padTo 32 (flat (take k w ++ drop (suc k) w)) =
-    rw (flat-append, u, ← replicate-append-replicate {A = ℕ} (32 - length (flat w)) 4 0) (simp append-assoc) in
+    rw (joined-append be32, u, ← replicate-append-replicate {A = ℕ} (32 - length (flat w)) 4 0) (simp append-assoc) in
     let c : length w - 1 ≡ length (take k w ++ drop (suc k) w) =
     omega (arith, length-append (take k w) (drop (suc k) w), length-take-le k w (omega arith), length-drop (suc k) w) in
     ap₂ (λ (b r : List ℕ). set (paste (paste room 0 b) at r) 0 (length w - 1)) p q

@@ -10,7 +10,8 @@ use Rattle.ledger.specs.Choice.{both}
 use Rattle.ledger.specs.Tally.{occ, sumOf, allOf}
 use Rattle.ledger.proofs.Tallies.{at-all, all-append}
 use Rattle.ledger.proofs.Sums.{occ-append}
-use Rattle.table_image.specs.Layout.{areBytes, joined}
+use Rattle.ledger.specs.Lists.{joined}
+use Rattle.octets.specs.Runs.{areBytes}
 
 -- what is below 256 everywhere is bytes
 pub bytes : (l : List ℕ) → ((k : ℕ) → getD l k 0 < 256) → areBytes l ≡ true

@@ -11,7 +11,8 @@ use borrow.Author.Tests.{eqb-true, eq-eqb, ne-eqb, lt-ltb, le-leb}
 use Rattle.ledger.specs.Choice.{both}
 use Rattle.ledger.specs.Tally.{oneIf, occ, allOf}
 use Rattle.ledger.proofs.Tallies.{both-of, to-both, chosen, both-true, both-assoc, both-swap, same-test, all-both}
-use Rattle.ledger.proofs.Lists.{map-at}
+use Rattle.ledger.proofs.Lists.{map-at, listed-at}
+use Rattle.ledger.specs.Lists.{joined}
 use Rattle.octets.specs.Numbers.{be32At}
 use Rattle.octets.specs.Runs.{part, allZero}
 use Rattle.octets.proofs.Numbers.{be32At-be32, be32At-part}
@@ -23,9 +24,9 @@ use Rattle.paper.specs.declared.State.{State}
 use Rattle.paper.specs.declared.State.the-variants.{Unbound, Idle, OutconPending, InconPending, DataXfer, UserResetPending, ProvResetPending}
 use Rattle.paper.specs.declared.Stream.{Stream}
 use Rattle.paper.specs.declared.Ppa.{Ppa}
-use Rattle.table_image.specs.Layout.{ppaBase, slotBase, slotParts, ppaFrom, ppaAt, tableOf, streamBytes, waitingBytes, slotBytes, headerBytes, joined, imageOf, isState, tidy, soundImage}
+use Rattle.table_image.specs.Layout.{ppaBase, slotBase, slotParts, ppaFrom, ppaAt, tableOf, streamBytes, waitingBytes, slotBytes, headerBytes, imageOf, isState, tidy, soundImage}
 use Rattle.table_image.specs.Lent.{Lent}
-use Rattle.table_image.proofs.Joined.{listed-at, joined-at}
+use Rattle.octets.proofs.Pieces.{joined-at}
 use Rattle.table_image.proofs.Shapes.{slots-wide, header-length}
 use Rattle.table_image.proofs.Lending.{lent-tidy}
 use Rattle.table_lookup.proofs.Laws.{ppa-place}

@@ -5,11 +5,11 @@ use mathlib.Core.List.{List}
 use lib.Dec.{eqb, ltb, leb}
 use Rattle.ledger.specs.Choice.{pick, both, asks}
 use Rattle.ledger.specs.Tally.{occ, has, allOf}
+use Rattle.ledger.specs.Lists.{joined}
 use Rattle.paper.specs.Base.{isIn, isAmong, boundStates, connectionStates, Slot, Table, ppaNumbers}
 use Rattle.paper.specs.Saps.{asBindAllows}
 use Rattle.paper.specs.Sound.{every, sameAnswer, unbound, soundSlot, isAlone}
 use Rattle.paper.specs.declared.Stream.{Stream}
-use Rattle.table_image.specs.Layout.{joined}
 
 -- ---- an open stream (`openTests`)
 

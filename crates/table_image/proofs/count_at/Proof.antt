@@ -8,11 +8,11 @@ use Rattle.octets.specs.Runs.{part}
 use Rattle.octets.proofs.Runs.{part-byte}
 use Rattle.paper.specs.Base.{Slot}
 use Rattle.table_image.specs.Layout.{slotBase, waitingFrom, slotAt}
-use Rattle.table_image.proofs.Joined.{listed-length}
 use Rattle.table_image.proofs.TableBack.{slot-at}
 use borrow.Author.Needs.{needs}
 use Rattle.table_image.proofs.count_at.Statement.{statement}
 use Rattle.table_image.proofs.count_at.Tie as tie
+use Rattle.ledger.proofs.Lists.{listed-length}
 
 returns : tie.Need-returns
 unfolding slotAt waitingFrom

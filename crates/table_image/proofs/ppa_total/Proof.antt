@@ -2,10 +2,10 @@ use mathlib.Core.Path.{sym}
 use denote.Ref.{now}
 use lib.ListN.{getD}
 use Rattle.table_image.specs.Layout.{ppaAt, tableOf}
-use Rattle.table_image.proofs.Joined.{listed-length}
 use borrow.Author.Needs.{needs}
 use Rattle.table_image.proofs.ppa_total.Statement.{statement}
 use Rattle.table_image.proofs.ppa_total.Tie as tie
+use Rattle.ledger.proofs.Lists.{listed-length}
 
 returns : tie.Need-returns
 unfolding tableOf

@@ -7,11 +7,12 @@ use lib.ListN.{length, take, drop, drop-of-length-le}
 use borrow.Author.Needs.{needs}
 use denote.Ref.{now}
 use Rattle.paper.specs.Base.{Slot, waiting, closed}
-use Rattle.table_image.specs.Layout.{tableOf, joined}
+use Rattle.table_image.specs.Layout.{tableOf}
 use Rattle.table_numbers.proofs.Laws.{copied-on}
 use Rattle.table_numbers.proofs.open_numbers.Statement.{statement}
 use Rattle.table_numbers.proofs.open_numbers.Tie as tie
 use Rattle.octets.proofs.Runs.{paste-length}
+use Rattle.ledger.specs.Lists.{joined}
 
 abbrev Inv-loop : tie.InvT-loop
 Inv-loop img dst₀ total₀ i₀ dst total i =

@@ -5,11 +5,12 @@ use native.Mathlib.Omega.{arith}
 use borrow.Author.Needs.{needs}
 use denote.Ref.{now}
 use borrow.Author.Tests.{lt-leb, le-leb, eq-eqb, ne-eqb}
-use Rattle.table_image.specs.Layout.{areBytes, tidy}
+use Rattle.table_image.specs.Layout.{tidy}
 use Rattle.table_soundness.proofs.Laws.{bytes}
 use Rattle.table_soundness.proofs.is_tidy.Statement.{statement}
 use Rattle.table_soundness.proofs.is_tidy.Tie as tie
 use Rattle.ledger.proofs.Tallies.{test-held, test-failed}
+use Rattle.octets.specs.Runs.{areBytes}
 
 returns : tie.Need-returns
 unfolding tidy

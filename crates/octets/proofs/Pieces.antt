@@ -1,65 +1,21 @@
--- Lists by their elements, and runs of pieces of one width laid end to end: a piece read or replaced, zeros behind them.
+-- Pieces of one width laid end to end: a piece read or replaced, zeros behind them.
 use Prim.Native.Nat.{ℕ, zero, suc, _+_, _-_, _*_, _≤_, _<_}
 use native.Mathlib.Omega.{arith}
 use native.Mathlib.Nat.{zero-mul, suc-mul}
-use mathlib.Core.Path.{_≡_, refl, sym, ap, _∙_}
+use mathlib.Core.Path.{_≡_, sym, ap, _∙_}
 use mathlib.Core.Bool.{true}
-use mathlib.Core.List.{List, [], _∷_, _++_, append-assoc, append-nil}
+use mathlib.Core.List.{List, [], _∷_, _++_, append-assoc}
 use lib.ListN.{length, getD, take, drop, set, replicate, length-append, length-replicate, replicate-append-replicate}
-use lib.Seq.{take-at, drop-at, take-length, split-at, set-split, ext-getD}
+use lib.Seq.{take-at, drop-at, take-length, split-at, set-split}
 use Rattle.octets.specs.Runs.{part, paste, allZero}
 use Rattle.octets.proofs.Runs.{zero-replicate, part-length, part-add, paste-middle}
-use Rattle.table_image.specs.Layout.{listed, joined, padTo}
-
--- ---- elements
-
-module _ {A : Type 0} where
-  -- the length of a list that a function gives
-  pub listed-length : (f : ℕ → A) (i n : ℕ) → length (listed f i n) ≡ n
-  listed-length f i zero = refl
-  listed-length f i (suc n) = ap suc (listed-length f (suc i) n)
-
-  -- its elements
-  pub listed-at : (f : ℕ → A) (i n k : ℕ) (d : A) → k < n → getD (listed f i n) k d ≡ f (i + k)
-  listed-at f i zero k d h = absurd (omega arith)
-  listed-at f i (suc n) zero d h = let e : i ≡ i + 0 = omega arith in ap f e
-  listed-at f i (suc n) (suc k) d h =
-      let e : suc i + k ≡ i + suc k = omega arith in
-      listed-at f (suc i) n k d (omega arith) ∙ ap f e
-
-  -- a list whose elements a function gives
-  pub listed-back : (f : ℕ → A) (l : List A) (n : ℕ) (d : A) → length l ≡ n → ((k : ℕ) → k < n → f k ≡ getD l k d) → listed f 0 n ≡ l
-  listed-back f l n d e h =
-      ext-getD d (listed f 0 n) l (listed-length f 0 n ∙ sym e) λ k b.
-      let c : k < n = omega (arith, listed-length f 0 n) in
-      let z : 0 + k ≡ k = omega arith in
-      listed-at f 0 n k d c ∙ ap f z ∙ h k c
-
-  -- what holds of a function's values holds of each element
-  pub each-listed : (P : A → Type 0) (f : ℕ → A) (i n : ℕ) (d : A) → ((k : ℕ) → k < i + n → P (f k)) → P d
-      → (k : ℕ) → P (getD (listed f i n) k d)
-  each-listed P f i zero d h p k = p
-  each-listed P f i (suc n) d h p zero = h i (omega arith)
-  each-listed P f i (suc n) d h p (suc k) = each-listed P f (suc i) n d (λ j b. h j (omega arith)) p k
+use Rattle.octets.specs.Blocks.{padTo}
+use Rattle.ledger.specs.Lists.{listed, joined}
+use Rattle.ledger.proofs.Lists.{joined-append}
 
 -- ---- runs of pieces
 
 module _ {A : Type 0} (f : A → List ℕ) where
-  joined-append : (l m : List A) → joined f (l ++ m) ≡ joined f l ++ joined f m
-  joined-append [] m = refl
-  joined-append (x ∷ l) m =
-      ap (λ (r : List ℕ). f x ++ r) (joined-append l m) ∙ sym (append-assoc (f x) (joined f l) (joined f m))
-
-  -- one piece more
-  pub joined-more : (l : List A) (x : A) → joined f (l ++ (x ∷ [])) ≡ joined f l ++ f x
-  joined-more l x = joined-append l (x ∷ []) ∙ ap (λ (r : List ℕ). joined f l ++ r) (append-nil (f x))
-
-  -- an element replaced by one with the same piece
-  pub joined-kept : (d : A) (l : List A) (k : ℕ) (x : A) → f x ≡ f (getD l k d) → joined f (set l k x) ≡ joined f l
-  joined-kept d [] k x e = refl
-  joined-kept d (y ∷ l) zero x e = ap (λ (r : List ℕ). r ++ joined f l) e
-  joined-kept d (y ∷ l) (suc k) x e = ap (λ (r : List ℕ). f y ++ r) (joined-kept d l k x e)
-
   module _ (d : A) (w : ℕ) where
     before-length : (l : List A) (k : ℕ) → ((i : ℕ) → length (f (getD l i d)) ≡ w) → k ≤ length l → length (joined f (take k l)) ≡ k * w
     before-length l zero g b = omega (arith, zero-mul w)
@@ -81,7 +37,7 @@ module _ {A : Type 0} (f : A → List ℕ) where
       ahead-length = omega (arith, length-append h (joined f (take k l)), before-length l k g (omega arith))
 
       around : joined f l ≡ joined f (take k l) ++ (f (getD l k d) ++ joined f (drop (suc k) l))
-      around = ap (joined f) (split-at l k d n) ∙ joined-append (take k l) (getD l k d ∷ drop (suc k) l)
+      around = ap (joined f) (split-at l k d n) ∙ joined-append f (take k l) (getD l k d ∷ drop (suc k) l)
 
       -- piece k, between other bytes
       pub joined-at : (q : List ℕ) → part (h ++ (joined f l ++ q)) (k * w + b) w ≡ f (getD l k d)
@@ -98,7 +54,7 @@ module _ {A : Type 0} (f : A → List ℕ) where
       joined-paste x a c z o y m =
           let q : List ℕ = z ++ joined f (drop (suc k) l) in
           let s : h ++ joined f l ≡ ahead ++ a ++ q = rw (around, o) (simp append-assoc) in
-          let v : h ++ joined f (set l k x) ≡ ahead ++ c ++ q = rw (set-split l k x n, joined-append, y) (simp append-assoc) in
+          let v : h ++ joined f (set l k x) ≡ ahead ++ c ++ q = rw (set-split l k x n, joined-append f, y) (simp append-assoc) in
           ap (λ (r : List ℕ). paste r (k * w + b) c) s ∙ paste-middle ahead a c q (k * w + b) ahead-length m ∙ sym v
 
 -- ---- zeros behind
