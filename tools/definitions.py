@@ -3,7 +3,7 @@
 
 For each capture it writes a claim that what the calls come to by `step` (crates/paper), from a fresh table and with 128
 bytes of room, prints as NAME.text (crates/replay_transcript), byte by byte, and where there is a NAME.fates another, that the same
-calls print as that (crates/fates_book, register, report); and has the checker compute them. The claims stand in a crate of their
+calls print as that (crates/fates_book, fates_register, fates_report); and has the checker compute them. The claims stand in a crate of their
 own below target/definitions/. The last line is 'N passed, M failed'; exit status 1 if a claim fails.
 """
 import importlib.util

@@ -13,7 +13,7 @@ use Rattle.paper.specs.StateRows.{stateRows, found}
 use Rattle.paper.specs.Sight.{Question, nothing, sends, requestAsks, sightBy}
 use Rattle.paper.specs.Effects.{changed, carried, enacted, ordersIn, upsIn, told, onward, unchanged, effectOf, errorEffect}
 use Rattle.paper.specs.Decide.{does, effectBy, decideBy}
-use Rattle.paper.specs.Step.{enact, comes}
+use Rattle.paper.specs.Step.{conclude, comes}
 use Rattle.paper.specs.declared.Token.{Token}
 use Rattle.paper.specs.declared.Stream.{Stream}
 use Rattle.paper.specs.declared.Rule.{Rule}
@@ -41,8 +41,8 @@ module _ (t : Table) (i : ℕ) (m : List ℕ) (code : ℕ) where
   doing c e = outcomeOf t m (Does i c e)
 
   -- an error is the same whoever would carry
-  error-enacted : (f : Found) (w : Question) (r : Rule) → doing i (errorEffect code r) ≡ enact t i m (sightBy t i f w) (does (errorEffect code r))
-  unfolding enact enacted changed carried told inOrder ordersIn upsIn
+  error-enacted : (f : Found) (w : Question) (r : Rule) → doing i (errorEffect code r) ≡ conclude t i m (sightBy t i f w) (does (errorEffect code r))
+  unfolding conclude enacted changed carried told inOrder ordersIn upsIn
   error-enacted f w r = refl
 
   pub wrong : (r : Rule) (e : Effect) → e ≡ errorEffect code r → doing i e ≡ comes stateRows t i m (sends code (Wrong r))
@@ -52,10 +52,10 @@ module _ (t : Table) (i : ℕ) (m : List ℕ) (code : ℕ) where
   -- a request, by the row that was found
   module _ (q : Request) (s : Stream) (f : Found) (es : s ≡ stream t i) (ef : f ≡ found stateRows s (requestAsks q .cause)) where
     by-found : (g : Found) → f ≡ g
-        → enact t i m (sightBy t i g (requestAsks q .question)) (decideBy (sightBy t i g (requestAsks q .question)) (sends code (For q)) g) ≡ comes stateRows t i m (sends code (For q))
+        → conclude t i m (sightBy t i g (requestAsks q .question)) (decideBy (sightBy t i g (requestAsks q .question)) (sends code (For q)) g) ≡ comes stateRows t i m (sends code (For q))
     unfolding comes
     by-found g h =
-        ap (λ (g : Found). enact t i m (sightBy t i g (requestAsks q .question)) (decideBy (sightBy t i g (requestAsks q .question)) (sends code (For q)) g))
+        ap (λ (g : Found). conclude t i m (sightBy t i g (requestAsks q .question)) (decideBy (sightBy t i g (requestAsks q .question)) (sends code (For q)) g))
         (sym h ∙ ef ∙ ap (λ (s : Stream). found stateRows s (requestAsks q .cause)) es)
 
     pub no-row : (e : Effect) → f ≡ Missing → e ≡ errorEffect code rule.NoRow → doing i e ≡ comes stateRows t i m (sends code (For q))
@@ -64,7 +64,7 @@ module _ (t : Table) (i : ℕ) (m : List ℕ) (code : ℕ) where
 
     pub by-row : (x : StateRow) (r : Judgement) (e : Effect) → f ≡ At x → RightlyJudged t i q r → e ≡ effectBy (At x) (record { 0 = i + 1 }) code s (r .verdict)
         → doing (r .carrier) e ≡ comes stateRows t i m (sends code (For q))
-    unfolding enact decideBy
+    unfolding conclude decideBy
     by-row x r e h j z = rw (z, j x .0, j x .1, es, add-one) (by-found (At x) h)
 
 -- ---- no message takes an open indication

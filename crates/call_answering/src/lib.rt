@@ -135,7 +135,7 @@ fn answer_request(img: &[u8], i: u8, code: u32, q: Request) -> Decided
 }
 
 // Step 1 of the order of errors, then the others.
-pub fn answer(img: &[u8], i: u8, m: &[u8]) -> Decided
+pub fn answer_message(img: &[u8], i: u8, m: &[u8]) -> Decided
     requires { ⌜ (i < 16) × (length (now img) ≡ 760) × Lent (now img) × (4 ≤ length (now m)) × (length (now m) ≤ 96) ⌝ }
     ensures { λ r. ⌜ Rightly (tableOf (now (img .entry))) (now (m .entry)) r (comes stateRows (tableOf (now (img .entry))) i (now (m .entry)) (sends (codeIn (now (m .entry))) (askedBy (now (m .entry))))) ⌝ }
 {

@@ -103,7 +103,7 @@ fn put_named_order(room: &mut [u8], i: u8, c: u8, m: &[u8], o: LineOrder) -> usi
             room,
             s,
             at,
-            wire_messages::address_in(m, at),
+            wire_messages::address_at(m, at),
         ),
         _ => wire_replies::put_order(room, s, o),
     }
@@ -125,7 +125,7 @@ fn mac_at(img: &[u8], i: u8) -> [u8; 6]
     requires { ⌜ (i < 16) × (length (now img) ≡ 760) × Lent (now img) ⌝ }
     ensures { λ r. ⌜ r ≡ macAt (tableOf (now (img .entry))) i ⌝ }
 {
-    let p = table_image::ppa_at(img, i as usize);
+    let p = table_image::attached_at(img, i as usize);
     table_lookup::mac_of(img, p)
 }
 
@@ -214,7 +214,7 @@ pub fn conclude(img: &mut [u8], room: &mut [u8], m: &[u8], d: Decided) -> u32
     ensures { λ r. ⌜ left r (now (img .exit)) (now (room .exit)) ≡ leaving (now (img .entry)) (now (room .entry)) (outcomeOf (tableOf (now (img .entry))) (now (m .entry)) d) ⌝ }
 {
     match d {
-        Decided::Refuses(n) => call_outcomes::refused(n),
+        Decided::Refuses(n) => call_outcomes::refusing(n),
         Decided::Does(i, c, e) => enact(img, room, i, c, m, e),
     }
 }

@@ -9,11 +9,11 @@ use lib.Dec.{ltb}
 use types.Run.{OneOf, miss}
 use denote.Enum.Declared.{tagOf}
 use borrow.Author.Tests.{ltb-false}
-use Rattle.ledger.specs.Choice.{both, _⇒_∣_}
+use Rattle.ledger.specs.Choice.{_⇒_∣_}
 use Rattle.ledger.proofs.Tallies.{both-of, skip}
 use Rattle.paper.specs.Base.{Table, stream}
 use Rattle.paper.specs.RecordsIn.{inputOf, messageIn}
-use Rattle.paper.specs.Refusals.{littleRoom, notARecord, notSound, refused}
+use Rattle.paper.specs.Refusals.{littleRoom, notARecord, refused}
 use Rattle.paper.specs.Sound.{sound}
 use Rattle.paper.specs.StateRows.{stateRows}
 use Rattle.paper.specs.Step.{ofOpen, message, serveBy, isReadable, stepBy}
@@ -23,7 +23,7 @@ use Rattle.paper.proofs.Input as the-input
 use Rattle.paper.proofs.Records.{leastSize, read-long}
 use Rattle.paper.proofs.SoundTests.{few-granted}
 use Rattle.table_image.specs.Layout.{tableOf, tidy, soundImage}
-use Rattle.call_outcomes.specs.Leaving.{left, refusing, leaving, callOf}
+use Rattle.call_outcomes.specs.Leaving.{leaving, callOf}
 use Rattle.call_events.specs.Bringing.{isOfLine}
 use Rattle.call_engine.specs.Reading.{isOpening, ReadOf}
 use Rattle.octets.proofs.Runs.{part-length}
@@ -114,13 +114,3 @@ pub call-on : (img r room : List ℕ) → soundImage img ≡ true
     ≡ callOf img r room
 unfolding callOf stepBy
 call-on img r room h = sym (skip _ _ _ (ap not (parts img h .0)) ∙ ap (leaving img room) (skip _ _ _ (ap not (parts img h .1))))
-
--- on any other it is refusal 16
-pub call-off : (img r room : List ℕ) → soundImage img ≡ false → left (refusing notSound) img room ≡ callOf img r room
-unfolding soundImage callOf stepBy leaving _⇒_∣_
-call-off img r room h = go (tidy img) (sound (tableOf img)) refl refl h
-  where
-    go : (a b : Bool) → tidy img ≡ a → sound (tableOf img) ≡ b → both a b ≡ false → left (refusing notSound) img room ≡ callOf img r room
-    go true true p q h = absurd (false≢true (sym h))
-    go true false p q h = rw (p, q)
-    go false b p q h = rw p

@@ -40,7 +40,7 @@ fn read_of<'a>(r: &'a [u8], q: Input) -> &'a [u8]
 }
 
 // A message of stream i: refusals 2, 5 and 4, then its answer.
-fn message(img: &[u8], i: u8, l: u8, m: &[u8]) -> Decided
+fn message_to(img: &[u8], i: u8, l: u8, m: &[u8]) -> Decided
     requires { ⌜ (length (now img) ≡ 760) × Lent (now img) × (l ≤ 96 → length (now m) ≡ l) ⌝ }
     ensures { λ d. ⌜ Rightly (tableOf (now (img .entry))) (now (m .entry)) d (ofOpen (tableOf (now (img .entry))) i (message stateRows (tableOf (now (img .entry))) i l (now (m .entry)))) ⌝ }
 {
@@ -53,16 +53,16 @@ fn message(img: &[u8], i: u8, l: u8, m: &[u8]) -> Decided
     if l < 4 {
         return Decided::Refuses(NO_CODE);
     }
-    call_answering::answer(img, i, m)
+    call_answering::answer_message(img, i, m)
 }
 
 // Any message, any event.
-fn decide(img: &[u8], r: &[u8], m: &[u8], q: Input) -> Decided
+fn decide_coming(img: &[u8], r: &[u8], m: &[u8], q: Input) -> Decided
     requires { ⌜ (length (now img) ≡ 760) × (soundImage (now img) ≡ true) × (inputOf (now r) ≡ q) × (isOpening q ≡ false) × ReadOf (now r) q (now m) ⌝ }
     ensures { λ d. ⌜ Rightly (tableOf (now (img .entry))) (now (m .entry)) d (serveBy stateRows (tableOf (now (img .entry))) (now (r .entry)) q) ⌝ }
 {
     match q {
-        Input::Message(i, l) => message(img, i, l, m),
+        Input::Message(i, l) => message_to(img, i, l, m),
         _ => call_events::occur(img, r, q),
     }
 }
@@ -80,7 +80,7 @@ fn serve(img: &mut [u8], room: &mut [u8], r: &[u8], q: Input) -> u32
         Input::Close(i) => call_openings::close_stream(img, room, i),
         _ => {
             let m = read_of(r, q);
-            let d = decide(img, r, m, q);
+            let d = decide_coming(img, r, m, q);
             call_enacting::conclude(img, room, m, d)
         }
     }
@@ -112,10 +112,10 @@ pub fn call_sound(img: &mut [u8], r: &[u8], room: &mut [u8]) -> u32
 {
     let q = wire_records::input_of(r);
     if !is_readable(q) {
-        return call_outcomes::refused(NOT_A_RECORD);
+        return call_outcomes::refusing(NOT_A_RECORD);
     }
     if room.len() < 128 {
-        return call_outcomes::refused(LITTLE_ROOM);
+        return call_outcomes::refusing(LITTLE_ROOM);
     }
     serve(img, room, r, q)
 }
@@ -125,7 +125,7 @@ pub fn call(img: &mut [u8], r: &[u8], room: &mut [u8]) -> u32
     ensures { λ n. ⌜ left n (now (img .exit)) (now (room .exit)) ≡ callOf (now (img .entry)) (now (r .entry)) (now (room .entry)) ⌝ }
 {
     if !table_soundness::sound_image(img) {
-        return call_outcomes::refused(NOT_SOUND);
+        return call_outcomes::refusing(NOT_SOUND);
     }
     call_sound(img, r, room)
 }

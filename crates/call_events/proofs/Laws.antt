@@ -12,11 +12,11 @@ use Rattle.ledger.specs.Choice.{_⇒_∣_}
 use Rattle.paper.proofs.Input as the-input
 use Rattle.paper.specs.Base.{Table, slot, stream, waiting}
 use Rattle.paper.specs.Refusals.{Outcome, notARecord, refused}
-use Rattle.paper.specs.StateRows.{stateRows, found}
+use Rattle.paper.specs.StateRows.{stateRows, found, isFound}
 use Rattle.paper.specs.Sight.{nothing, brings, letterOf, answerTo, sightBy}
 use Rattle.paper.specs.Effects.{eventEffect}
 use Rattle.paper.specs.Decide.{isDue, decideBy}
-use Rattle.paper.specs.Step.{enact, comes, serveBy}
+use Rattle.paper.specs.Step.{conclude, comes, serveBy}
 use Rattle.paper.specs.declared.Input.{Input}
 use Rattle.paper.specs.declared.Input.the-variants as input
 use Rattle.paper.specs.declared.Stream.{Stream}
@@ -42,11 +42,11 @@ module _ (t : Table) (i : ℕ) (r : List ℕ) (refusal : ℕ) (e : Event) where
   by (At x) = doing (eventEffect x (stream t i) e)
 
   by-due-row : by (dueRow t i e) ≡ comes stateRows t i r (brings refusal e)
-  unfolding comes enact decideBy answerTo _⇒_∣_
+  unfolding comes conclude decideBy answerTo _⇒_∣_
   by-due-row = go (isDue (slot t i) e) refl (found stateRows (stream t i) (letterOf e))
     where
       go : (b : Bool) → isDue (slot t i) e ≡ b → (f : Found)
-          → by (b ⇒ f ∣ Missing) ≡ enact t i r (sightBy t i f nothing) (decideBy (sightBy t i f nothing) (brings refusal e) f)
+          → by (b ⇒ f ∣ Missing) ≡ conclude t i r (sightBy t i f nothing) (decideBy (sightBy t i f nothing) (brings refusal e) f)
       go true p Missing = refl
       go false p Missing = refl
       go true p (At x) = rw p
@@ -61,17 +61,13 @@ module _ (t : Table) (i : ℕ) (r : List ℕ) (refusal : ℕ) (e : Event) where
 
 -- ---- a call that arrives and is due finds a place; no other event takes one
 
-abbrev isThere : Found → Bool
-isThere Missing = false
-isThere (At x) = true
-
 due : (t : Table) (i : ℕ) (e : Event) (x : StateRow) → dueRow t i e ≡ At x → isDue (slot t i) e ≡ true
 unfolding _⇒_∣_
 due t i e x h = go (isDue (slot t i) e) h
   where
     go : (b : Bool) → (b ⇒ found stateRows (stream t i) (letterOf e) ∣ Missing) ≡ At x → b ≡ true
     go true h = refl
-    go false h = absurd (false≢true (ap isThere h))
+    go false h = absurd (false≢true (ap isFound h))
 
 has-place : (t : Table) (i : ℕ) (x : StateRow) (s : Stream) (e : Event) → isDue (slot t i) e ≡ true → stream t i .granted ≤ 8
     → takes (eventEffect x s e .change) ≡ true → length (waiting t i) < 8

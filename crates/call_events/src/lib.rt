@@ -106,7 +106,7 @@ fn is_called(img: &[u8], p: PpaNumber, r: &[u8]) -> bool
 
 // I comes to its listener, with the next number: 7 unless the PPA is known and has the called MAC, and somebody listens for it
 // and the SAP; then 8 where the listener is busy.
-fn call_arrives(img: &[u8], p: PpaNumber, sap: u8, r: &[u8]) -> Brought
+fn arrives(img: &[u8], p: PpaNumber, sap: u8, r: &[u8]) -> Brought
     requires { ⌜ (length (now img) ≡ 760) × Lent (now img) ⌝ }
     ensures { λ b. ⌜ RightlyBrought (tableOf (now (img .entry))) (now (r .entry)) b (arrives stateRows (tableOf (now (img .entry))) p sap (now (r .entry))) ⌝ }
 {
@@ -130,7 +130,7 @@ fn bring(img: &[u8], r: &[u8], q: Input) -> Brought
     ensures { λ b. ⌜ RightlyBrought (tableOf (now (img .entry))) (now (r .entry)) b (serveBy stateRows (tableOf (now (img .entry))) (now (r .entry)) q) ⌝ }
 {
     match q {
-        Input::CallArrives(p, sap) => call_arrives(img, p, sap, r),
+        Input::CallArrives(p, sap) => arrives(img, p, sap, r),
         Input::PeerAccepted(i) => named(img, i, Event::Accepted),
         Input::PeerGone(i, reason) => named(img, i, Event::Gone(reason)),
         Input::CallWithdrawn(i, n, reason) => named(img, i, Event::Withdrawn(n, reason)),

@@ -60,11 +60,6 @@ leaves-opening img room t i n img' a b =
 
 -- ---- goodbyes
 
--- each is ten bytes
-pub goodbyes-long : (i : ℕ) (w : List ℕ) → length (allBytes (map (goodbye i) w)) ≡ length w * 10
-goodbyes-long i [] = refl
-goodbyes-long i (n ∷ w) = omega (arith, goodbyes-long i w)
-
 -- one more, with the number at the next place
 pub goodbyes-next : (i k : ℕ) (w : List ℕ) (c : Correlation) → k < length w → c ≡ record { 0 = getD w k 0 }
     → allBytes (map (goodbye i) (take k w)) ++ bytesOf (order i (lineOrder.Disconnect c 0) []) ≡ allBytes (map (goodbye i) (take (k + 1) w))

@@ -25,13 +25,13 @@ pub fn add_ppa(img: &mut [u8], p: PpaNumber, mac: &[u8]) -> u32
     ensures { λ r. ⌜ ((room : List ℕ) → left r (now (img .exit)) room ≡ leaving (now (img .entry)) room (addsPpa (tableOf (now (img .entry))) p (now (mac .entry)))) ⌝ }
 {
     if table_image::remembers(img) {
-        return call_outcomes::refused(NO_NEW_PPA);
+        return call_outcomes::refusing(NO_NEW_PPA);
     }
     if 8 <= table_image::ppa_total(img) {
-        return call_outcomes::refused(NO_NEW_PPA);
+        return call_outcomes::refusing(NO_NEW_PPA);
     }
     if table_lookup::knows(img, p) {
-        return call_outcomes::refused(NO_NEW_PPA);
+        return call_outcomes::refusing(NO_NEW_PPA);
     }
     table_image::store_ppa(img, p, mac);
     0
@@ -43,7 +43,7 @@ pub fn open_stream(img: &mut [u8]) -> u32
     ensures { λ r. ⌜ ((room : List ℕ) → left r (now (img .exit)) room ≡ leaving (now (img .entry)) room (opens (tableOf (now (img .entry))))) ⌝ }
 {
     if table_image::free_total(img) == 0 {
-        return call_outcomes::refused(ALL_OPEN);
+        return call_outcomes::refusing(ALL_OPEN);
     }
     let i = table_image::lowest_free(img);
     table_image::open_slot(img, i as usize);
@@ -88,7 +88,7 @@ pub fn close_stream(img: &mut [u8], room: &mut [u8], i: u8) -> u32
 {
     let at = i as usize;
     if !table_image::is_open(img, at) {
-        return call_outcomes::refused(NOT_OPEN);
+        return call_outcomes::refusing(NOT_OPEN);
     }
     let written = put_goodbyes(img, room, i);
     table_image::close_slot(img, at);

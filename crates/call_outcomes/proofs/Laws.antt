@@ -1,26 +1,28 @@
--- Laws of what a call leaves: of a refusal, of records written, of records one behind the other.
+-- Laws of what a call leaves: of records written, of a refusal, of one change of the image after another.
 use Prim.Native.Nat.{ℕ, _+_, _<_}
 use native.Mathlib.Omega.{arith}
-use mathlib.Core.Path.{_≡_, sym, ap, subst, _∙_}
-use mathlib.Core.Bool.{Bool, true, false}
+use mathlib.Core.Path.{_≡_, sym, ap, subst, _∙_, refl}
+use mathlib.Core.Bool.{Bool, true, false, false≢true}
 use mathlib.Core.List.{List}
 use lib.Dec.{eqb}
 use borrow.Author.Tests.{lt-ltb}
 use lib.ListN.{length}
-use Rattle.ledger.specs.Choice.{_⇒_∣_}
+use Rattle.ledger.specs.Choice.{_⇒_∣_, both}
 use Rattle.ledger.specs.Tally.{firstOf}
 use Rattle.octets.specs.Runs.{over}
 use Rattle.paper.specs.Base.{Table, macOf}
 use Rattle.paper.specs.declared.Ppa.{Ppa}
 use Rattle.paper.specs.declared.PpaNumber.{PpaNumber}
 use Rattle.paper.specs.RecordsOut.{Record, allBytes}
-use Rattle.paper.specs.Refusals.{Outcome, refused, served}
-use Rattle.table_image.specs.Layout.{tableOf, imageOf}
+use Rattle.paper.specs.Refusals.{Outcome, refused, served, notSound}
+use Rattle.paper.specs.Sound.{sound}
+use Rattle.paper.specs.Step.{stepBy}
+use Rattle.table_image.specs.Layout.{tableOf, imageOf, tidy, soundImage}
 use Rattle.table_image.specs.Shape.{Shaped}
 use Rattle.table_image.specs.Lent.{Lent}
 use Rattle.table_image.proofs.TableBack.{table-back}
 use Rattle.table_image.proofs.Lending.{lent-image}
-use Rattle.call_outcomes.specs.Leaving.{Left, left, refusing, leaving}
+use Rattle.call_outcomes.specs.Leaving.{Left, left, refusing, leaving, callOf}
 
 -- a served call leaves its table's image and its records at the start of the room
 pub leaves-served : (img room : List ℕ) (t : Table) (rs : List Record) (n : ℕ) (img' room' : List ℕ)
@@ -68,3 +70,13 @@ unfolding macOf
 mac-length t s p = s .macs (firstOf (λ (q : Ppa). eqb (q .number .0) (p .0)) (t .ppas))
 
 -- ---- one record written
+
+-- "16: a table that isn't sound", before all other tests.
+pub unsound-gives-sixteen : (img r room : List ℕ) → soundImage img ≡ false → callOf img r room ≡ left (refusing notSound) img room
+unfolding soundImage callOf leaving stepBy _⇒_∣_
+unsound-gives-sixteen img r room = go (tidy img) refl (sound (tableOf img)) refl
+  where
+    go : (a : Bool) → tidy img ≡ a → (b : Bool) → sound (tableOf img) ≡ b → both a b ≡ false → callOf img r room ≡ left (refusing notSound) img room
+    go false e b f h = rw e
+    go true e false f h = rw (e, f)
+    go true e true f h = absurd (false≢true (sym h))

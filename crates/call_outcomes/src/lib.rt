@@ -39,7 +39,7 @@ pub const NOT_A_RECORD: u8 = 10;
 pub const NOT_SOUND: u8 = 16;
 
 // The number of a refused call.
-pub fn refused(n: u8) -> u32
+pub fn refusing(n: u8) -> u32
     ensures { λ r. ⌜ r ≡ refusing n ⌝ }
 {
     octets::wide(n) * 65536

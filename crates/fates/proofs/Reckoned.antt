@@ -107,9 +107,9 @@ module _ (img register : List ℕ) (w : Told img register) (short : length (line
       (λ k b. ap (λ (l : List ℕ). getD l (385 + k) 0) (w .entered) ∙ kept-all-counts (lines h) fine short k b))
       ∙ ap (λ (n : ℕ). wordTotal ++ spacedNumber (overStreams 16 (λ s. length (fates s h))) ++ spacedNumber (totalOf 0 h) ++ spacedNumber (totalOf 1 h) ++ spacedNumber (totalOf 2 h) ++ spacedNumber (totalOf 3 h) ++ spacedNumber (totalOf 4 h) ++ spacedNumber n ++ (10 ∷ [])) open-all
 
--- ---- the line of a call, at any line of a history
+-- ---- the line of an indication, at any line of a history
 
--- The line of a call that ends shows the place and the number of that very call: xs are the lines up to there.
+-- The line of an indication that ends shows the place and the number of that very one: xs are the lines up to there.
 pub indication-told : (x : Harness) (xs ys : List Line) → lines (heardIn x) ≡ xs ++ ys → length xs < 18446744073709551615
     → (s n : ℕ) (e : End) → s < 16 → has n (openOf (newest (posts s xs []))) ≡ true
     → indicationLine s (placeOf s n (enteredAll xs blank)) (wordOf e) (enteredAll xs blank) ≡ indicationShown s n e (posts s xs [])

@@ -4,11 +4,9 @@ use mathlib.Core.Path.{_≡_, refl, sym, ap, _∙_}
 use mathlib.Core.Bool.{true}
 use mathlib.Core.List.{List, []}
 use lib.ListN.{replicate}
-use lib.Dec.{ltb}
-use borrow.Author.Tests.{lt-ltb}
 use Rattle.octets.specs.Runs.{Bytes}
+use Rattle.octets.proofs.Runs.{to-areBytes}
 use Rattle.ledger.specs.Choice.{_⇒_∣_}
-use Rattle.ledger.proofs.Tallies.{at-all}
 use Rattle.paper.specs.Base.{fresh}
 use Rattle.table_image.specs.Layout.{imageOf, soundImage}
 use Rattle.call_outcomes.specs.Leaving.{callMade}
@@ -25,7 +23,7 @@ use Rattle.fates.specs.Told.{Told, linesBy}
 pub told-next : (img register r : List ℕ) → Told img register → Bytes r → Told (callMade img r .image) (enteredAll (linesBy r (callMade img r)) register)
 told-next img register r w b =
     let x : Harness = w .harness in
-    let c : Lending = record { bytes = r; areBytes = at-all (λ (n : ℕ). ltb n 256) 0 r (λ i. lt-ltb _ _ (b i)); room = replicate 128 0 } in
+    let c : Lending = record { bytes = r; areBytes = to-areBytes r b; room = replicate 128 0 } in
     rw (w .table, w .entered) (record {
       harness = andThen x c;
       table = sym (image-more x c);

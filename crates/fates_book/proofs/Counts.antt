@@ -139,7 +139,7 @@ ends-counted k s e w ys ts h = ap (λ (l : List ℕ). getD l 0 0) (sym (tally-te
         ap (λ (b : Bool). getD (tallies k s (map (λ (n : ℕ). Went s n e) w) (pick b (bump (oneIf (eqb k (countOf e))) ts) ts)) 0 0) (eq-eqb s s refl)
         ∙ go w (bump (oneIf (eqb k (countOf e))) ts) ∙ omega (arith, bump-first (oneIf (eqb k (countOf e))) ts)
 
--- a call that rings in adds one, to the count of all
+-- an indication that comes adds one, to the count of all
 pub ring-counted : (k s n : ℕ) (ys : List Line) (ts : List ℕ) → telling ys ≡ Came s n ∷ [] → getD (tallies k s ys ts) 0 0 ≡ getD ts 0 0 + oneIf (eqb k 0)
 unfolding tallies
 ring-counted k s n ys ts h =

@@ -42,7 +42,7 @@ grant-telling s (Nothing ∷ ys) g = grant-telling s ys g
 
 -- ---- lines about other streams
 
--- a line about an opening or a call of stream s
+-- a line about an opening or an indication of stream s
 abbrev pub concerns : ℕ → Line → Bool
 concerns s (Began i) = eqb s i
 concerns s (Came i n) = eqb s i

@@ -19,7 +19,7 @@ use Rattle.ledger.proofs.Lists.{replicate-at}
 use Rattle.fates_book.proofs.Shades.{shade, fair, fairs, openings, rooted, rooteds, open-post, length-post, opening-there}
 use Rattle.fates_register.specs.Register.{blank, begun, rung, gone, entered, enteredAll}
 use Rattle.fates_register.proofs.Pages.{onPage, inAll, Page, page-aside, more-all, begun-all, end-count, begun-page, rung-outside, rung-page, gone-outside, gone-page}
-use Rattle.fates_register.proofs.Whole.{over-none, over-same, over-one, Change, change-counted, change-begun}
+use Rattle.fates_register.proofs.Whole.{over-none, over-same, over-one, CountedUp, change-counted, change-begun}
 
 -- ---- the register against the book
 
@@ -66,7 +66,7 @@ kept-still l b t m r = record {
 
 -- a line of stream i, which raises count c
 kept-change : (l l′ : List ℕ) (b : ℕ → List Opening) (t : ℕ → ℕ → List ℕ) (m i c : ℕ) (b′ : ℕ → List Opening) (t′ : ℕ → ℕ → List ℕ)
-    → i < 16 → m < 18446744073709551615 → Kept l b t m → Change l l′ i c → Page l′ i (b′ i) (λ k. t′ k i) (suc m)
+    → i < 16 → m < 18446744073709551615 → Kept l b t m → CountedUp l l′ i c → Page l′ i (b′ i) (λ k. t′ k i) (suc m)
     → ((a : ℕ) → inAll a (b′ i) (λ k. t′ k i) ≡ inAll a (b i) (λ k. t k i) + oneIf (eqb a c))
     → Kept l′ (λ s. pick (eqb s i) (b′ s) (b s)) (λ k s. pick (eqb s i) (t′ k s) (t k s)) (suc m)
 kept-change l l′ b t m i c b′ t′ h u r d p g = record {

@@ -37,7 +37,7 @@ over-one (suc n) i d f g h e o =
 -- ---- what a line changes elsewhere
 
 -- on the page of the whole table count c goes up by one, and the pages of other streams than i stay
-pub record Change (l l′ : List ℕ) (i c : ℕ) : Type 0 where
+pub record CountedUp (l l′ : List ℕ) (i c : ℕ) : Type 0 where
   pub size : length l′ ≡ length l
   pub table : (a : ℕ) → a < 6 → getD l (384 + a) 0 < 18446744073709551615 → getD l′ (384 + a) 0 ≡ getD l (384 + a) 0 + oneIf (eqb a c)
   pub others : (s a : ℕ) → s < 16 → s ≢ i → a < 24 → getD l′ (s * 24 + a) 0 ≡ getD l (s * 24 + a) 0
@@ -51,7 +51,7 @@ outside-page l l′ i x y s a o p q e h =
 
 module _ (l : List ℕ) (i c : ℕ) (h : i < 16) (d : c < 6) (z : length l ≡ 408) where
   -- a count, and then the page
-  pub change-counted : (l′ : List ℕ) → Outside (counting i c l) l′ (i * 24 + 6) (i * 24 + 22) → Change l l′ i c
+  pub change-counted : (l′ : List ℕ) → Outside (counting i c l) l′ (i * 24 + 6) (i * 24 + 22) → CountedUp l l′ i c
   change-counted l′ o = record {
     size = o .size ∙ counting-length l i c;
     table = λ a n m. o .behind (384 + a) (omega arith) ∙ counting-table l i c h d z a n m;
@@ -59,7 +59,7 @@ module _ (l : List ℕ) (i c : ℕ) (h : i < 16) (d : c < 6) (z : length l ≡ 4
   }
 
 -- a page that starts anew, and then its count
-pub change-begun : (l : List ℕ) (i : ℕ) → i < 16 → length l ≡ 408 → Change l (begun i l) i 0
+pub change-begun : (l : List ℕ) (i : ℕ) → i < 16 → length l ≡ 408 → CountedUp l (begun i l) i 0
 change-begun l i h z =
     let o : Outside l (cleared 21 (i * 24 + 1) l) (i * 24 + 1) (i * 24 + 22) = outside-cleared l 21 (i * 24 + 1) (i * 24 + 1) (i * 24 + 22) (omega arith) (omega arith) in
     record {

@@ -1,7 +1,7 @@
 -- Laws of the text of fates: one piece behind the other, and how long each is.
 use Prim.Native.Nat.{ℕ, zero, suc, _+_, _-_, _*_, _≤_, _<_}
 use native.Mathlib.Omega.{arith}
-use mathlib.Core.Path.{_≡_, refl, sym, ap, ap₂, _∙_}
+use mathlib.Core.Path.{_≡_, refl, sym, ap, _∙_}
 use mathlib.Core.List.{List, [], _∷_, _++_, append-assoc, append-nil}
 use lib.ListN.{length, getD, drop, length-append, drop-of-length-le}
 use lib.Seq.{drop-cons, drop-drop}
@@ -10,7 +10,8 @@ use Rattle.ledger.specs.Choice.{_⇒_∣_}
 use Rattle.ledger.proofs.Tallies.{chosen}
 use Rattle.octets.specs.Numbers.{be32At}
 use Rattle.octets.specs.Runs.{paste}
-use Rattle.octets.proofs.Runs.{paste-join, paste-nothing, paste-after}
+use Rattle.octets.proofs.Runs.{paste-after}
+use Rattle.octets.proofs.Writing.{Unwritten, all-unwritten, less-unwritten, none-unwritten}
 use Rattle.text.proofs.Laws.{decimal-most}
 use Rattle.paper.specs.declared.Input.{Input}
 use Rattle.paper.specs.RecordsOut.{sizeOut}
@@ -23,32 +24,6 @@ use Rattle.fates_book.specs.Lines.{asker, endLine, upLine, lineAt, recordsIn, l
 use Rattle.fates_register.specs.Register.{openOn, entered, enteredAll}
 use Rattle.fates_register.proofs.Laws.{entered-append}
 use Rattle.fates_report.specs.Report.{wordCall, wordOf, wordStillOpen, spacedNumber, numbers, indicationLine, openLines, endText, lineText, allText, endTexts, openOnAll}
-
--- ---- what is still to come, behind e, leads to the same text
-
-pub record Coming (out₀ : List ℕ) (at : ℕ) (whole out : List ℕ) (e : ℕ) (rest : List ℕ) : Type 0 where
-  pub end : at + length whole ≡ e + length rest
-  pub text : paste out₀ at whole ≡ paste out e rest
-
--- nothing is written yet
-pub all-coming : (out : List ℕ) (at : ℕ) (whole : List ℕ) → Coming out at whole out at whole
-all-coming out at whole = record { end = refl; text = refl }
-
--- a piece was written
-pub less-coming : {out₀ : List ℕ} {at : ℕ} {whole out out' all : List ℕ} {e e' : ℕ} (p rest : List ℕ) → e ≤ length out
-    → Coming out₀ at whole out e all → all ≡ p ++ rest
-    → (e' ≡ e + length p) × (out' ≡ paste out e p)
-    → Coming out₀ at whole out' e' rest
-less-coming {out₀} {at} {whole} {out} {out'} {all} {e} {e'} p rest h c q w = record {
-  end = omega (arith, c .end, ap length q, length-append p rest, w .0);
-  text = c .text ∙ ap (paste out e) q ∙ paste-join out e p rest h ∙ ap₂ (λ (x : List ℕ) (y : ℕ). paste x y rest) (sym (w .1)) (sym (w .0));
-}
-
--- all is written
-pub none-coming : {out₀ : List ℕ} {at : ℕ} {whole out rest : List ℕ} {e : ℕ} → Coming out₀ at whole out e rest → rest ≡ []
-    → (e ≡ at + length whole) × (out ≡ paste out₀ at whole)
-none-coming {out₀} {at} {whole} {out} {rest} {e} c q =
-    (omega (arith, c .end, ap length q), sym (c .text ∙ ap (paste out e) q ∙ paste-nothing out e))
 
 -- ---- numbers
 
@@ -186,31 +161,31 @@ lines-next k q b i h =
     ∙ ap (λ (l : List ℕ). lineAt q (drop i b) ∷ linesIn k q l) (drop-drop (sizeOut (getD b i 0)) i b)
 
 -- k lines at most are still to be told, of the bytes from i on
-pub record Telling (out₀ : List ℕ) (at : ℕ) (ys : List Line) (l₀ : List ℕ) (q : Input) (b out : List ℕ) (e i : ℕ) (l : List ℕ) : Type 0 where
+pub record StillTelling (out₀ : List ℕ) (at : ℕ) (ys : List Line) (l₀ : List ℕ) (q : Input) (b out : List ℕ) (e i : ℕ) (l : List ℕ) : Type 0 where
   pub k : ℕ
   pub enough : length b ≤ i + k
-  pub text : Coming out₀ at (allText ys l₀) out e (allText (linesIn k q (drop i b)) l)
+  pub text : Unwritten out₀ at (allText ys l₀) out e (allText (linesIn k q (drop i b)) l)
   pub register : enteredAll ys l₀ ≡ enteredAll (linesIn k q (drop i b)) l
 
-pub all-telling : (out : List ℕ) (at : ℕ) (q : Input) (b l : List ℕ) → Telling out at (linesIn (length b) q b) l q b out at 0 l
+pub all-telling : (out : List ℕ) (at : ℕ) (q : Input) (b l : List ℕ) → StillTelling out at (linesIn (length b) q b) l q b out at 0 l
 all-telling out at q b l = record {
   k = length b;
   enough = omega arith;
-  text = all-coming out at (allText (linesIn (length b) q b) l);
+  text = all-unwritten out at (allText (linesIn (length b) q b) l);
   register = refl;
 }
 
 -- a line was told
 pub less-telling : {out₀ : List ℕ} {at : ℕ} {ys : List Line} {l₀ : List ℕ} {q : Input} {b out : List ℕ} {e i : ℕ} {l out' : List ℕ} {e' : ℕ} {l' : List ℕ} (y : Line) (size : ℕ)
-    → Telling out₀ at ys l₀ q b out e i l → i < length b → e ≤ length out
+    → StillTelling out₀ at ys l₀ q b out e i l → i < length b → e ≤ length out
     → y ≡ lineAt q (drop i b) → size ≡ sizeOut (getD b i 0)
     → (e' ≡ e + length (lineText y l)) × (out' ≡ paste out e (lineText y l)) → l' ≡ entered y l
-    → Telling out₀ at ys l₀ q b out' e' (i + size) l'
+    → StillTelling out₀ at ys l₀ q b out' e' (i + size) l'
 unfolding allText enteredAll
 less-telling {out₀} {at} {ys} {l₀} {q} {b} {out} {e} {i} {l} {out'} {e'} {l'} y size t h f p s w n = go (t .k) (t .enough) (t .text) (t .register)
   where
-    go : (k : ℕ) → length b ≤ i + k → Coming out₀ at (allText ys l₀) out e (allText (linesIn k q (drop i b)) l)
-        → enteredAll ys l₀ ≡ enteredAll (linesIn k q (drop i b)) l → Telling out₀ at ys l₀ q b out' e' (i + size) l'
+    go : (k : ℕ) → length b ≤ i + k → Unwritten out₀ at (allText ys l₀) out e (allText (linesIn k q (drop i b)) l)
+        → enteredAll ys l₀ ≡ enteredAll (linesIn k q (drop i b)) l → StillTelling out₀ at ys l₀ q b out' e' (i + size) l'
     go zero a c r = absurd (omega (arith, h, a))
     go (suc k) a c r =
         let rest : List Line = linesIn k q (drop (i + size) b) in
@@ -218,18 +193,18 @@ less-telling {out₀} {at} {ys} {l₀} {q} {b} {out} {e} {i} {l} {out'} {e'} {l'
         record {
           k = k;
           enough = omega (arith, a, s, size-within (getD b i 0));
-          text = less-coming (lineText y l) (allText rest l') f c (ap (λ (x : List Line). allText x l) all ∙ ap (λ (x : List ℕ). lineText y l ++ allText rest x) (sym n)) w;
+          text = less-unwritten (lineText y l) (allText rest l') f c (ap (λ (x : List Line). allText x l) all ∙ ap (λ (x : List ℕ). lineText y l ++ allText rest x) (sym n)) w;
           register = r ∙ ap (λ (x : List Line). enteredAll x l) all ∙ ap (enteredAll rest) (sym n);
         }
 
 -- all are told
 pub none-telling : {out₀ : List ℕ} {at : ℕ} {ys : List Line} {l₀ : List ℕ} {q : Input} {b out : List ℕ} {e i : ℕ} {l : List ℕ}
-    → Telling out₀ at ys l₀ q b out e i l → length b ≤ i
+    → StillTelling out₀ at ys l₀ q b out e i l → length b ≤ i
     → ((e ≡ at + length (allText ys l₀)) × (out ≡ paste out₀ at (allText ys l₀))) × (l ≡ enteredAll ys l₀)
 unfolding allText enteredAll
 none-telling {out₀} {at} {ys} {l₀} {q} {b} {out} {e} {i} {l} t h =
     let none = lines-end (t .k) q b i h in
-    (none-coming (t .text) (ap (λ (x : List Line). allText x l) none), sym (t .register ∙ ap (λ (x : List Line). enteredAll x l) none))
+    (none-unwritten (t .text) (ap (λ (x : List Line). allText x l) none), sym (t .register ∙ ap (λ (x : List Line). enteredAll x l) none))
 
 -- ---- a call
 

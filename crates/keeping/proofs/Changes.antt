@@ -29,8 +29,6 @@ not-nine p n h g = go (eqb n 9) refl
     go true e = absurd (false≢true (sym g ∙ ap p (eqb-true n 9 e) ∙ h))
     go false e = refl
 
--- ---- what a bind leaves
-
 -- ---- what a state asks of a stream that goes there
 
 pub record Fits (s : Stream) (q : State) : Type 0 where

@@ -26,7 +26,7 @@ use Rattle.paper.specs.declared.Input.{Input}
 use Rattle.keeping.specs.Soundness.{Sound}
 use Rattle.keeping.proofs.Changes.{quiet}
 use Rattle.keeping.proofs.Leaves.{close-sound}
-use Rattle.keeping.proofs.Sights.{shows-closes}
+use Rattle.keeping.proofs.Traces.{shows-closes}
 use Rattle.keeping.proofs.Effects.{Good}
 
 module _ (t : Table) (k : Sound t) where

@@ -36,7 +36,7 @@ use Rattle.keeping.specs.Soundness.{Sound}
 use Rattle.keeping.specs.RowsFit.{toState, mayLead, mayAttach, mayBind}
 use Rattle.keeping.proofs.Changes.{not-nine, Fits, ok-attached, ok-bound}
 use Rattle.keeping.proofs.Leaves.{stream-sound, deaf, settle-sound}
-use Rattle.keeping.proofs.Sights.{Shows, SameGrant, shows-still, shows-stream, shows-binds}
+use Rattle.keeping.proofs.Traces.{Shows, SameGrant, shows-still, shows-stream, shows-binds}
 use Rattle.keeping.proofs.Lines.{orderLines, upLines, effectLines, told-lines, quiet-told}
 use Rattle.keeping.proofs.Rows.{Moves, leads-moves}
 use Rattle.keeping.proofs.Binds.{boundBy, bind-alone}
@@ -61,7 +61,7 @@ module _ (t : Table) (i : ℕ) (q : Input) (c : ℕ) (m : List ℕ) where
   pub shows-lines : (e : Effect) (ys : List Line) (v : Table) → effectLines q i c e ≡ ys → Shows t ys v → ShowsBy e v
   shows-lines e ys v l h = subst (λ (zs : List Line). Shows t zs v) (sym (told-lines q i c (slot t i) (macAt t i) m e ∙ l)) h
 
-  -- its order and its message say nothing of calls
+  -- its order and its message say nothing of indications
   abbrev Quiet : Effect → Type 0
   Quiet e = both (silent (orderLines q i c (e .order))) (silent (upLines i (e .up))) ≡ true
 

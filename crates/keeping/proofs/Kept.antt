@@ -39,7 +39,7 @@ use Rattle.keeping.specs.Soundness.{Sound}
 use Rattle.keeping.specs.RowsFit.{toState, lastState, mayTake, mayLose, enders, fitsStaying, fitsMoving, fitsDisconnecting, fitsAttaching, fitsBinding, fitsTaking, fitsLosing, RowsFit}
 use Rattle.keeping.proofs.Changes.{opened, in-nine, ok-closed}
 use Rattle.keeping.proofs.Leaves.{open-sound, ppa-sound}
-use Rattle.keeping.proofs.Sights.{shows-still, shows-opens}
+use Rattle.keeping.proofs.Traces.{shows-still, shows-opens}
 use Rattle.keeping.proofs.Rows.{state-rows-fit, rowOf, passes}
 use Rattle.keeping.proofs.Effects.{Good, onward-good, unchanged-good, attach-good, bind-good}
 use Rattle.keeping.proofs.Listeners.{takes-good, less-good, accept-on, accept-here}

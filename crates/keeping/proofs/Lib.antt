@@ -6,7 +6,7 @@ pub mod Lent
 pub mod NextNumber
 -- What the lines of a call say, and what the table shows.
 pub mod Lines
-pub mod Sights
+pub mod Traces
 -- Each effect, by a state row that fits; opening and closing; every call, and every call on a lent image.
 pub mod Rows
 pub mod Binds

@@ -1,4 +1,4 @@
--- What a call says of calls is its order's line and its message's, whatever its effect: an effect has one of each at most, and a
+-- What a call says of indications is its order's line and its message's, whatever its effect: an effect has one of each at most, and a
 -- flush says nothing.
 use Prim.Native.Nat.{ℕ}
 use mathlib.Core.Path.{_≡_, refl, ap, _∙_}
@@ -50,7 +50,7 @@ told-lines q i c own mac m e = go (e .order) (e .flush) (e .up)
     go Untold b u = last b u
     go (Tells o) b u = ap (λ (l : List Line). orderLine q (namedBy i c o) o ∷ l) (last b u)
 
--- An effect that says nothing of calls: its order and its message do not.
+-- An effect that says nothing of indications: its order and its message do not.
 pub quiet-told : (q : Input) (i c : ℕ) (own : Slot) (mac m : List ℕ) (e : Effect) → both (silent (orderLines q i c (e .order))) (silent (upLines i (e .up))) ≡ true
     → silent (map (lineOf q) (told i c own mac m e)) ≡ true
 quiet-told q i c own mac m e h =

@@ -36,7 +36,7 @@ use Rattle.keeping.specs.Soundness.{Sound}
 use Rattle.keeping.specs.RowsFit.{toState, lastState, mayTake, mayLose}
 use Rattle.keeping.proofs.Changes.{Fits, eight, in-nine}
 use Rattle.keeping.proofs.Leaves.{standing-sound, settle-sound, more-sound}
-use Rattle.keeping.proofs.Sights.{Shows, shows-stream, shows-less, shows-more}
+use Rattle.keeping.proofs.Traces.{Shows, shows-stream, shows-less, shows-more}
 use Rattle.keeping.proofs.Lines.{effectLines}
 use Rattle.keeping.proofs.Effects.{Good, same-grant, shows-lines}
 

@@ -1,6 +1,6 @@
 -- Laws of tests, counts and sums over any list, and over one with an element replaced: each by the list, element by element.
 use Prim.Native.Nat.{ℕ, zero, suc, _+_, _≤_, _<_}
-use mathlib.Core.Path.{_≡_, refl, ap, _∙_}
+use mathlib.Core.Path.{_≡_, refl, ap, _∙_, sym}
 use mathlib.Core.Bool.{Bool, true, false}
 use mathlib.Core.List.{List, [], _∷_, _++_}
 use lib.ListN.{length, getD, set}
@@ -8,9 +8,10 @@ use lib.Dec.{eqb, ltb}
 use lib.Seq.{getD-set-same, getD-set-other}
 use native.Mathlib.Omega.{arith}
 use borrow.Author.Tests.{eqb-true, eqb-false, eq-eqb, ltb-true, ltb-false}
-use Rattle.ledger.specs.Choice.{pick}
+use Rattle.ledger.specs.Choice.{pick, both}
 use Rattle.ledger.specs.Tally.{oneIf, occ, has, without, sumOf, allOf}
-use Rattle.ledger.proofs.Tallies.{occOver, both-of, to-both, picked}
+use Rattle.ledger.proofs.Tallies.{occOver, both-of, to-both, picked, all-append}
+use Rattle.ledger.specs.Lists.{joined}
 
 -- ---- tests
 
@@ -129,3 +130,12 @@ to-asks false b h = refl
 -- a number of a list has what each of the list has
 pub among : (p : ℕ → Bool) (n : ℕ) (l : List ℕ) → allOf p l ≡ true → has n l ≡ true → p n ≡ true
 among p n l a h = all-occ p n l a (ltb-true 0 (occ n l) h)
+
+-- over lists laid end to end
+pub occ-joined : {A : Type 0} (f : A → List ℕ) (n : ℕ) (l : List A) → sumOf (λ x. occ n (f x)) l ≡ occ n (joined f l)
+occ-joined f n [] = refl
+occ-joined f n (x ∷ l) = ap (λ (m : ℕ). occ n (f x) + m) (occ-joined f n l) ∙ sym (occ-append n (f x) (joined f l))
+
+pub all-joined : {A : Type 0} (f : A → List ℕ) (p : ℕ → Bool) (l : List A) → allOf (λ x. allOf p (f x)) l ≡ allOf p (joined f l)
+all-joined f p [] = refl
+all-joined f p (x ∷ l) = ap (both (allOf p (f x))) (all-joined f p l) ∙ sym (all-append p (f x) (joined f l))

@@ -3,3 +3,4 @@ pub mod Numbers
 pub mod Runs
 pub mod Blocks
 pub mod Pieces
+pub mod Writing

@@ -3,8 +3,8 @@ use Prim.Native.Nat.{ℕ, zero, suc, _+_, _<_, _≤_, _-_}
 use mathlib.Core.Path.{_≡_, refl, ap₂, sym, ap, _∙_}
 use mathlib.Core.Bool.{Bool, true, false, _&&_, false≢true, and-assoc}
 use mathlib.Core.List.{List, [], _∷_, _++_, append-assoc, append-nil}
-use lib.Dec.{eqb, eqb·suc-zero}
-use borrow.Author.Tests.{eqb-true, eq-eqb, ne-eqb}
+use lib.Dec.{eqb, eqb·suc-zero, ltb}
+use borrow.Author.Tests.{eqb-true, eq-eqb, ne-eqb, ltb-true, lt-ltb}
 use lib.ListN.{length, replicate, getD, drop, take, drop-of-length-le, length-drop, length-take, length-append, take-append-drop}
 use native.Mathlib.Omega.{arith}
 use lib.Bits.{bitOr, or-add-and, and-le-r}
@@ -12,8 +12,9 @@ use native.Mathlib.Numerals.{add-one}
 use lib.Seq.{drop-cons, take-nil, take-all, length-take-le, getD-drop, take-add, drop-drop, getD-take, drop-at, take-at, take-take}
 use borrow.Rule.Slice.PartMut.{putMid, postOf, midOf}
 use native.Mathlib.Nat.{zero-add}
-use Rattle.octets.specs.Runs.{sameBytes, allZero, part, Bytes, paste, over}
+use Rattle.octets.specs.Runs.{sameBytes, allZero, part, Bytes, paste, over, areBytes}
 use Rattle.ledger.proofs.Lists.{each-take}
+use Rattle.ledger.proofs.Tallies.{all-at, at-all}
 
 -- ---- tests of runs
 
@@ -61,6 +62,13 @@ pub zero-more : (s : List ℕ) (i any : ℕ) → i < length s
     → eqb (bitOr any (getD s i 0)) 0 && allZero (drop (i + 1) s) ≡ eqb any 0 && allZero (drop i s)
 zero-more s i any h =
     rw (or-zero, add-one, drop-cons s i 0) (and-assoc (eqb any 0) (eqb (getD s i 0) 0) (allZero (drop (suc i) s)))
+
+-- bytes, by the test and place by place
+pub of-areBytes : (l : List ℕ) → areBytes l ≡ true → Bytes l
+of-areBytes l h k = ltb-true _ _ (all-at (λ (n : ℕ). ltb n 256) 0 refl l h k)
+
+pub to-areBytes : (l : List ℕ) → Bytes l → areBytes l ≡ true
+to-areBytes l h = at-all (λ (n : ℕ). ltb n 256) 0 l (λ k. lt-ltb _ _ (h k))
 
 -- zeros are bytes
 pub zero-bytes : (n : ℕ) → Bytes (replicate n 0)

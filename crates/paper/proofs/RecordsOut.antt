@@ -1,9 +1,11 @@
 -- The bytes of records one behind the other: of one, of two runs of them, of a call's in order.
-use mathlib.Core.Path.{_≡_, sym, ap, _∙_}
-use mathlib.Core.List.{[], _∷_, append-nil, List, _++_}
-use Prim.Native.Nat.{ℕ}
+use mathlib.Core.Path.{_≡_, sym, ap, _∙_, refl}
+use mathlib.Core.List.{[], _∷_, append-nil, List, _++_, map}
+use Prim.Native.Nat.{ℕ, _*_}
 use lib.ListN.{length}
+use native.Mathlib.Omega.{arith}
 use Rattle.paper.specs.RecordsOut.{Record, bytesOf, allBytes, inOrder}
+use Rattle.paper.specs.Openings.{goodbye}
 use Rattle.octets.specs.Runs.{over}
 use Rattle.ledger.proofs.Lists.{joined-append}
 
@@ -27,3 +29,8 @@ same-long r s e n h = one-long s n (h ∙ ap (λ (x : Record). length (bytesOf x
 
 pub same-over : (r s : Record) → r ≡ s → (room room' : List ℕ) → room' ≡ over (bytesOf r) room → room' ≡ over (allBytes (s ∷ [])) room
 same-over r s e room room' h = one-over s room room' (h ∙ ap (λ (x : Record). over (bytesOf x) room) e)
+
+-- each goodbye is ten bytes
+pub goodbyes-long : (i : ℕ) (w : List ℕ) → length (allBytes (map (goodbye i) w)) ≡ length w * 10
+goodbyes-long i [] = refl
+goodbyes-long i (n ∷ w) = omega (arith, goodbyes-long i w)

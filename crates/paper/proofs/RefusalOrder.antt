@@ -15,7 +15,7 @@ use Rattle.paper.specs.Examples.{own, peer, ringsIn, streamZero, unattac
 use Rattle.paper.specs.RecordsIn.{kindOf, recordSize, hasNonzeroPadding, inputOf}
 use Rattle.paper.specs.Saps.{isSap, isType, asBindAllows, listens, listener, isListenedFor}
 use Rattle.paper.specs.Sound.{holdsNothing, soundSlot, isSingle, isAlone, sound}
-use Rattle.paper.specs.Step.{enact, comes, ofOpen, message, arrives, stepBy, step}
+use Rattle.paper.specs.Step.{conclude, comes, ofOpen, message, arrives, stepBy, step}
 use Rattle.paper.specs.declared.State.the-variants.{InconPending}
 
 pub record Call : Type 0 where
@@ -53,5 +53,5 @@ calls =
     ∷ []
 
 pub first-number : map (λ (x : Call). step (x .table) (x .lent) (x .room) .refusal) calls ≡ 16 ∷ 10 ∷ 1 ∷ 2 ∷ 5 ∷ 4 ∷ 7 ∷ 8 ∷ 8 ∷ []
-unfolding _⇒_∣_ lowestFree knows macOf occurrences nextNumber answerTo found decideBy kindOf recordSize hasNonzeroPadding inputOf isSap isType asBindAllows listens listener isListenedFor holdsNothing soundSlot isSingle isAlone sound enact comes ofOpen message arrives stepBy
+unfolding _⇒_∣_ lowestFree knows macOf occurrences nextNumber answerTo found decideBy kindOf recordSize hasNonzeroPadding inputOf isSap isType asBindAllows listens listener isListenedFor holdsNothing soundSlot isSingle isAlone sound conclude comes ofOpen message arrives stepBy
 first-number = refl

@@ -1,13 +1,14 @@
 -- The states and their numbers: each state has its own, and what a list of states says of one is computed for the eight.
-use Prim.Native.Nat.{ℕ, _<_}
+use Prim.Native.Nat.{ℕ, _<_, zero, suc, _+_}
 use native.Mathlib.Omega.{arith}
 use mathlib.Core.Path.{_≡_, refl, sym, _∙_, ap}
 use mathlib.Core.Bool.{true, false, not, Bool}
-use lib.Dec.{eqb, leb}
-use borrow.Author.Tests.{not-true}
+use lib.Dec.{eqb, leb, ltb, eqb·suc-zero}
+use borrow.Author.Tests.{not-true, eqb-true, ne-eqb}
 use Rattle.ledger.specs.Choice.{_⇒_∣_, pick, either}
-use Rattle.ledger.specs.Tally.{has}
+use Rattle.ledger.specs.Tally.{has, oneIf, occ}
 use Rattle.ledger.proofs.Sums.{among}
+use Rattle.ledger.proofs.Tallies.{chosen}
 use Rattle.paper.specs.Base.{numberOf, everyState, boundStates, connectionStates, stateOf, noStream, attachedIn, inState, settled, callingStates, joinedStates}
 use Rattle.paper.specs.declared.State.{State}
 use Rattle.paper.specs.declared.State.the-variants.{Unattached, Unbound, Idle, OutconPending, InconPending, DataXfer, UserResetPending, ProvResetPending}
@@ -44,6 +45,26 @@ state-back InconPending = refl
 state-back DataXfer = refl
 state-back UserResetPending = refl
 state-back ProvResetPending = refl
+
+-- the state that a number tells has that number exactly if the paper has such a state
+pub state-told : (n : ℕ) → eqb (numberOf (stateOf n)) n ≡ has n everyState
+unfolding stateOf
+state-told n =
+    chosen P (eqb n 3) Unbound _ (known 3 Unbound refl) λ a. chosen P (eqb n 6) Idle _ (known 6 Idle refl) λ b.
+    chosen P (eqb n 8) OutconPending _ (known 8 OutconPending refl) λ c. chosen P (eqb n 9) InconPending _ (known 9 InconPending refl) λ d.
+    chosen P (eqb n 11) DataXfer _ (known 11 DataXfer refl) λ e. chosen P (eqb n 12) UserResetPending _ (known 12 UserResetPending refl) λ f.
+    chosen P (eqb n 13) ProvResetPending _ (known 13 ProvResetPending refl) λ g.
+    rw (a, b, c, d, e, f, g) (last n)
+  where
+    P : State → Type 0
+    P q = eqb (numberOf q) n ≡ ltb 0 (occ n everyState)
+
+    known : (k : ℕ) (q : State) → eqb (numberOf q) k ≡ ltb 0 (occ k everyState) → eqb n k ≡ true → P q
+    known k q r e = let z : n ≡ k = eqb-true n k e in rw z r
+
+    last : (n : ℕ) → eqb 0 n ≡ ltb 0 (oneIf (eqb n 0) + 0)
+    last zero = refl
+    last (suc n) = rw (ne-eqb 0 (suc n) (λ e. omega arith), eqb·suc-zero n)
 
 -- 0 is the number of one state alone
 pub in-zero : (q : State) → numberOf q ≡ 0 → q ≡ Unattached

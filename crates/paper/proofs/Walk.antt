@@ -25,7 +25,7 @@ use Rattle.paper.specs.ErrorCodes.{errorOf}
 use Rattle.paper.specs.ErrorOrder.{verdictBy, verdict, verdictOn}
 use Rattle.paper.specs.Effects.{changed, carried, enacted, ordersIn, behindReply, upsIn, told, effectOf, eventEffect}
 use Rattle.paper.specs.Decide.{Decision, effectBy, isDue, decideBy}
-use Rattle.paper.specs.Step.{enact, comes, ofOpen, message, arrives, serveBy, isReadable, stepBy}
+use Rattle.paper.specs.Step.{conclude, comes, ofOpen, message, arrives, serveBy, isReadable, stepBy}
 use Rattle.paper.specs.declared.PpaNumber.{PpaNumber}
 use Rattle.paper.specs.declared.Correlation.{Correlation}
 use Rattle.paper.specs.declared.Input.{Input}
@@ -116,14 +116,14 @@ module _ (rows : List StateRow) (t : Table) where
     by-found : (q : Request) → Asks m q → (f : Found) → found rows (stream t i) (requestAsks q .cause) ≡ f
         → verdictBy (sightBy t i f (requestAsks q .question)) (For q) f ≡ verdictOn rows t i m (For q)
         → Replied rows t i m (For q)
-        (enact t i m (sightBy t i f (requestAsks q .question)) (decideBy (sightBy t i f (requestAsks q .question)) (sends (codeIn m) (For q)) f))
-    unfolding enact decideBy effectBy enacted changed carried told ordersIn upsIn behindReply inOrder
+        (conclude t i m (sightBy t i f (requestAsks q .question)) (decideBy (sightBy t i f (requestAsks q .question)) (sends (codeIn m) (For q)) f))
+    unfolding conclude decideBy effectBy enacted changed carried told ordersIn upsIn behindReply inOrder
     by-found q s Missing h e = failing (sym e)
     by-found q s (At x) h e = answered-by q x _ _ h (sym e) (fair t i m x q s)
 
     -- what message m asks, decided and enacted
     pub answered : (a : Asked) → askedBy m ≡ a → Replied rows t i m a (comes rows t i m (sends (codeIn m) a))
-    unfolding comes enact decideBy effectBy enacted changed carried told ordersIn upsIn behindReply inOrder
+    unfolding comes conclude decideBy effectBy enacted changed carried told ordersIn upsIn behindReply inOrder
     answered (Wrong w) e = failing refl
     answered (For q) e = by-found q (asks m e) _ refl refl
 
@@ -134,11 +134,11 @@ module _ (rows : List StateRow) (t : Table) where
   -- what the line brings to stream i, in record r: refused, or done by its row
   module _ (r : List ℕ) {q : Input} {i : ℕ} {e : Event} (b : Brings t q i e) (n : ℕ) (h : both (ltb 0 n) (ltb n 16) ≡ true) where
     by-row : (f : Found) → found rows (stream t i) (letterOf e) ≡ f
-        → Way rows t r q (enact t i r (sightBy t i f nothing) (decideBy (sightBy t i f nothing) (brings n e) f))
-    unfolding enact decideBy answerTo
+        → Way rows t r q (conclude t i r (sightBy t i f nothing) (decideBy (sightBy t i f nothing) (brings n e) f))
+    unfolding conclude decideBy answerTo
     by-row Missing f = no n h
     by-row (At x) f =
-        chosen (λ (d : Decision). Way rows t r q (enact t i r (sightBy t i (At x) nothing) d)) _ _ _ (λ _. no n h) (λ d. bringing b f (not-false _ d))
+        chosen (λ (d : Decision). Way rows t r q (conclude t i r (sightBy t i (At x) nothing) d)) _ _ _ (λ _. no n h) (λ d. bringing b f (not-false _ d))
 
     brought : Way rows t r q (comes rows t i r (brings n e))
     unfolding comes

@@ -64,11 +64,11 @@ toldStates = boundStates
 abbrev pub connectionStates : List ℕ
 connectionStates = 8 ∷ 9 ∷ 11 ∷ 12 ∷ 13 ∷ []
 
--- a call of its own: asked for, up, or being reset
+-- a connection: asked for, up, or being reset
 abbrev pub callingStates : List ℕ
 callingStates = 8 ∷ 11 ∷ 12 ∷ 13 ∷ []
 
--- a call that is up, or being reset
+-- a connection that is up, or being reset
 abbrev pub joinedStates : List ℕ
 joinedStates = 11 ∷ 12 ∷ 13 ∷ []
 

@@ -1,6 +1,6 @@
 -- 'State rows', as one table, in the paper's order.
 use Prim.Native.Nat.{ℕ}
-use mathlib.Core.Bool.{Bool}
+use mathlib.Core.Bool.{Bool, true, false}
 use mathlib.Core.List.{List, [], _∷_, _++_, map}
 use lib.Dec.{eqb}
 use Rattle.ledger.specs.Choice.{pick, both}
@@ -142,3 +142,8 @@ foundIn (x ∷ rows) state mode cause = pick (isRow state mode cause x) (At x) (
 
 unfoldable pub found : List StateRow → Stream → ℕ → Found
 found rows s cause = foundIn rows (number s) (s .mode) cause
+
+-- there is one
+abbrev pub isFound : Found → Bool
+isFound (At x) = true
+isFound Missing = false

@@ -25,16 +25,16 @@ use Rattle.paper.specs.declared.Input.the-variants as input
 use Rattle.paper.specs.declared.StateRow.{StateRow}
 use Rattle.paper.specs.declared.Event.the-variants as event
 
--- A decision on what came to stream i with these bytes, enacted.
-unfoldable pub enact : Table → ℕ → List ℕ → Sight → Decision → Outcome
-enact t i m s (refuses n) = refused t n
-enact t i m s (does e) =
+-- A decision on what came to stream i with these bytes, concluded.
+unfoldable pub conclude : Table → ℕ → List ℕ → Sight → Decision → Outcome
+conclude t i m s (refuses n) = refused t n
+conclude t i m s (does e) =
     served (enacted t i (carrierAt i (s .answer .carrier)) m e)
     (told i (carrierAt i (s .answer .carrier)) (s .own) (s .mac) m e)
 
 -- What comes to stream i is decided from what it sees.
 unfoldable pub comes : List StateRow → Table → ℕ → List ℕ → Coming → Outcome
-comes rows t i m c = enact t i m (sightOf rows t i c) (decide (sightOf rows t i c) c)
+comes rows t i m c = conclude t i m (sightOf rows t i c) (decide (sightOf rows t i c) c)
 
 -- Refusal 2 comes first of all that is said of a stream.
 unfoldable pub ofOpen : Table → ℕ → Outcome → Outcome

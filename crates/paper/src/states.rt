@@ -26,14 +26,14 @@ pub fn is_connection(q: State) -> bool
     8 <= number_of(q)
 }
 
-// A call that is up, or being reset.
+// A connection that is up, or being reset.
 pub fn is_joined(q: State) -> bool
     ensures { λ r. ⌜ r ≡ has (numberOf q) joinedStates ⌝ }
 {
     11 <= number_of(q)
 }
 
-// A call of its own: asked for, up, or being reset.
+// A connection: asked for, up, or being reset.
 pub fn is_calling(q: State) -> bool
     ensures { λ r. ⌜ r ≡ has (numberOf q) callingStates ⌝ }
 {

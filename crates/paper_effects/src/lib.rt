@@ -156,7 +156,7 @@ pub fn effect_of(x: StateRow, k: Token, s: Stream, v: Service) -> Effect
             acting(onward(x, s), order, false, Saying::Unsaid)
         }
         Service::Accept(n) => accepting(x, s, n),
-        // d; F where the call is up
+        // d, from 9; and from 8, 11, 12, 13, with F from the last three
         Service::Deny(n, reason) => {
             let order = Telling::Tells(LineOrder::Disconnect(n, reason));
             acting(less(x, s, n), order, false, ok(x))

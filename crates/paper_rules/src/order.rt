@@ -129,7 +129,7 @@ fn judge_other(s: Stream, n: Correlation, x: Stream) -> Verdict
     Verdict::Serves(Service::Accept(n))
 }
 
-// 6. A listener carries its only call itself.
+// 6. CONNECT_RES, where this stream is to carry the call: its number is the only one open.
 fn judge_itself(n: Correlation, count: u8) -> Verdict
     ensures { λ r. ⌜ r ≡ judgeItself n count ⌝ }
 {

@@ -4,10 +4,7 @@ use Prim.Native.Nat.{ℕ, _<_}
 use mathlib.Core.Path.{_≡_, refl, sym, ap, subst, _∙_}
 use mathlib.Core.Bool.{true, false≢true}
 use mathlib.Core.List.{List, [], _∷_, map}
-use lib.Dec.{ltb}
-use borrow.Author.Tests.{ltb-true}
-use Rattle.octets.specs.Runs.{Bytes}
-use Rattle.ledger.proofs.Tallies.{all-at}
+use Rattle.octets.proofs.Runs.{of-areBytes}
 use Rattle.ledger.proofs.Lists.{replicate-at}
 use Rattle.paper.specs.Base.{isAmong, boundStates, Slot, Table, fresh, slot, stream, waiting, closed}
 use Rattle.paper.specs.StateRows.{stateRows}
@@ -20,24 +17,21 @@ use Rattle.keeping.specs.Soundness.{Sound}
 use Rattle.promises.specs.History.{saidBy, lines, fates, grantedBy}
 use Rattle.promises.proofs.Runs.{Call, answeredBy, run, history}
 use Rattle.promises.proofs.Whole.{read-step}
-use Rattle.keeping.proofs.Sights.{Seen}
+use Rattle.keeping.proofs.Traces.{Traced}
 use Rattle.keeping.proofs.Kept.{good, keeps, fresh-sound}
 use Rattle.keeping.proofs.Rows.{state-rows-fit}
-
-pub are-bytes : (c : Call) → Bytes (c .bytes)
-are-bytes c j = ltb-true _ _ (all-at (λ (b : ℕ). ltb b 256) 0 refl (c .bytes) (c .areBytes) j)
 
 -- the lines of one call, from table t on
 abbrev pub linesFrom : Table → Call → List Line
 linesFrom t c = saidBy (answeredBy (c .bytes) (step t (c .bytes) (c .room)))
 
-step-seen : (t : Table) → Sound t → (c : Call) (s : ℕ) → Seen s t (linesFrom t c) (step t (c .bytes) (c .room) .table)
+step-seen : (t : Table) → Sound t → (c : Call) (s : ℕ) → Traced s t (linesFrom t c) (step t (c .bytes) (c .room) .table)
 step-seen t k c s =
-    subst (λ (ys : List Line). Seen s t ys (step t (c .bytes) (c .room) .table)) (sym (read-step t k (c .bytes) (c .room)))
-    (good stateRows state-rows-fit t k (c .bytes) (are-bytes c) (c .room) .seen s)
+    subst (λ (ys : List Line). Traced s t ys (step t (c .bytes) (c .room) .table)) (sym (read-step t k (c .bytes) (c .room)))
+    (good stateRows state-rows-fit t k (c .bytes) (of-areBytes (c .bytes) (c .areBytes)) (c .room) .seen s)
 
 pub kept : (t : Table) → Sound t → (c : Call) → Sound (step t (c .bytes) (c .room) .table)
-kept t k c = keeps t k (c .bytes) (are-bytes c) (c .room)
+kept t k c = keeps t k (c .bytes) (of-areBytes (c .bytes) (c .areBytes)) (c .room)
 
 -- of stream s: a table, its fates b so far, its counts and its last grant
 pub record Agrees (s : ℕ) (t : Table) (b : List Opening) (ts : ℕ → List ℕ) (g : ℕ) : Type 0 where
@@ -47,7 +41,7 @@ pub record Agrees (s : ℕ) (t : Table) (b : List Opening) (ts : ℕ → List �
   pub counts : (k : ℕ) → ts k ≡ map (countIn k) b
   pub grants : isAmong boundStates (stream t s) ≡ true → stream t s .granted ≡ g
 
-agrees-step : (s : ℕ) (t u : Table) (ys : List Line) (b : List Opening) (ts : ℕ → List ℕ) (g : ℕ) → Sound u → Seen s t ys u → Agrees s t b ts g
+agrees-step : (s : ℕ) (t u : Table) (ys : List Line) (b : List Opening) (ts : ℕ → List ℕ) (g : ℕ) → Sound u → Traced s t ys u → Agrees s t b ts g
     → Agrees s u (posts s ys b) (λ k. tallies k s ys (ts k)) (grantBy s ys g)
 agrees-step s t u ys b ts g k n a =
     let f : fairs s ys (openOf (newest b)) ≡ true = ap (fairs s ys) (a .now) ∙ n .fairly in
@@ -94,7 +88,7 @@ unfolding history lines
 fair-run s [] t z k f = (refl, refl)
 fair-run s (c ∷ cs) t z k f =
     let u : Table = step t (c .bytes) (c .room) .table in
-    let n : Seen s t (linesFrom t c) u = step-seen t z c s in
+    let n : Traced s t (linesFrom t c) u = step-seen t z c s in
     let r : (fairs s (lines (history u cs)) (waiting u s) ≡ true) × (rooteds s (lines (history u cs)) (openingsIn s (linesFrom t c) k) ≡ true)
     = fair-run s cs u (kept t z c) (openingsIn s (linesFrom t c) k) (n .opens k f) in (
       fairs-append s (linesFrom t c) (lines (history u cs)) (waiting t s) (n .fairly) (ap (fairs s (lines (history u cs))) (sym (n .shaded)) ∙ r .0),

@@ -7,27 +7,17 @@ use mathlib.Core.Bool.{Bool, true, false, false≢true}
 use mathlib.Core.List.{List}
 use lib.ListN.{length}
 use native.Mathlib.Omega.{arith}
-use Rattle.ledger.specs.Choice.{both, _⇒_∣_}
 use Rattle.ledger.proofs.Tallies.{chosen, both-of}
 use Rattle.paper.specs.Refusals.{notSound}
 use Rattle.paper.specs.Sound.{sound}
-use Rattle.paper.specs.Step.{stepBy, step}
+use Rattle.paper.specs.Step.{step}
 use Rattle.table_image.specs.Layout.{tableOf, tidy, soundImage}
 use Rattle.call_outcomes.specs.Leaving.{Left, left, refusing, refusalIn, leaving, callOf}
+use Rattle.call_outcomes.proofs.Laws.{unsound-gives-sixteen}
 use Rattle.keeping.proofs.Images.{lent-sound}
 use borrow.Author.Tests.{ltb-false, not-true}
 use Rattle.promises.proofs.Refused.{refusal-small}
 use Rattle.promises.proofs.Whole.{room-enough}
-
--- "16: a table that isn't sound", before all other tests.
-pub unsound-gives-sixteen : (img r room : List ℕ) → soundImage img ≡ false → callOf img r room ≡ left (refusing notSound) img room
-unfolding soundImage callOf leaving stepBy _⇒_∣_
-unsound-gives-sixteen img r room = go (tidy img) refl (sound (tableOf img)) refl
-  where
-    go : (a : Bool) → tidy img ≡ a → (b : Bool) → sound (tableOf img) ≡ b → both a b ≡ false → callOf img r room ≡ left (refusing notSound) img room
-    go false e b f h = rw e
-    go true e false f h = rw (e, f)
-    go true e true f h = absurd (false≢true (sym h))
 
 -- "The one refusal number that our rule paper names": on a sound image the refusal in the number is that of `step`.
 pub refusal-is-the-papers : (img r room : List ℕ) → soundImage img ≡ true → refusalIn (callOf img r room .number) ≡ step (tableOf img) r (length room) .refusal

@@ -31,10 +31,11 @@ use Rattle.paper.proofs.Walk.{Sent, Way, refusing, answering, walk, step-by}
 use Rattle.table_image.specs.Layout.{tableOf, tidy, soundImage}
 use Rattle.table_image.proofs.ImageBack.{image-back}
 use Rattle.call_outcomes.specs.Leaving.{Left}
+use Rattle.call_outcomes.proofs.Laws.{unsound-gives-sixteen}
 use Rattle.promises.specs.Answers.{errorsTold, Complete, verdictOf, hasRow, offersBusy}
 use Rattle.promises.specs.Harness.{Lending, leftOn, cameBack}
 use Rattle.promises.specs.History.{Answered}
-use Rattle.promises.proofs.Demand1.{refusal-is-the-papers, unsound-gives-sixteen}
+use Rattle.promises.proofs.Demand1.{refusal-is-the-papers}
 use Rattle.promises.proofs.ErrorAck.{error-leaves-image}
 use Rattle.promises.proofs.Harness.{outcome, IsStep, one-call}
 use Rattle.keeping.proofs.Images.{lent-sound}

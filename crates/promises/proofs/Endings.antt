@@ -260,12 +260,12 @@ untouched x c i ys e h = (
       counts-more x c k i ∙ sym (tally-telling k i (saidBy (nextIn x c)) n) ∙ ap (λ (zs : List Line). tallies k i zs n) e ∙ others-tally k i ys n h,
 )
 
--- of another stream than the one whose calls end,
+-- of another stream than the one whose indications end,
 pub ends-alone : (x : Harness) (c : Lending) (i s : ℕ) (e : End) (w : List ℕ) → telling (saidBy (nextIn x c)) ≡ map (λ (n : ℕ). Went s n e) w → (i ≡ s → ⊥)
     → (fates i (heardIn (andThen x c)) ≡ fates i (heardIn x)) × ((k : ℕ) → tallies k i (lines (heardIn (andThen x c))) [] ≡ tallies k i (lines (heardIn x)) [])
 ends-alone x c i s e w h d = untouched x c i _ h (none-ends i s e w d)
 
--- or than the one to which a call rings in,
+-- or than the one to which an indication comes,
 pub arrives-alone : (x : Harness) (c : Lending) (i s n : ℕ) → telling (saidBy (nextIn x c)) ≡ Came s n ∷ [] → (i ≡ s → ⊥)
     → (fates i (heardIn (andThen x c)) ≡ fates i (heardIn x)) × ((k : ℕ) → tallies k i (lines (heardIn (andThen x c))) [] ≡ tallies k i (lines (heardIn x)) [])
 arrives-alone x c i s n h d = untouched x c i _ h (none-comes i s n d)

@@ -10,7 +10,7 @@ use Rattle.paper.specs.Base.{number, isIn, connectionStates, Table, stream, wai
 use Rattle.paper.specs.ErrorCodes.{badCorr}
 use Rattle.paper.specs.ErrorOrder.{verdictBy, verdictOn}
 use Rattle.paper.specs.Sight.{requestAsks, sightBy}
-use Rattle.paper.specs.StateRows.{stateRows, foundIn, found}
+use Rattle.paper.specs.StateRows.{stateRows, foundIn, found, isFound}
 use Rattle.paper.specs.declared.Asked.the-variants.{For}
 use Rattle.paper.specs.declared.ConnectResponse.{ConnectResponse}
 use Rattle.paper.specs.declared.DisconnectRequest.{DisconnectRequest}
@@ -21,7 +21,6 @@ use Rattle.paper.specs.declared.Request.the-variants as request
 use Rattle.paper.specs.declared.Verdict.{Verdict}
 use Rattle.paper.proofs.Fair.{Asks, acceptsHere, acceptsOn, denies, disconnects, notOpen, acceptQos, othersOpen, ofNone, notIdle, otherPpa, connectionless, denialNotOpen, notZero, Judged, fails, serves, fair}
 use Rattle.keeping.specs.Soundness.{Sound}
-use Rattle.promises.specs.Answers.{isFound}
 use Rattle.promises.proofs.Verdicts.{errorsBy}
 
 module _ (t : Table) (s : ℕ) (k : Sound t) (e : isIn 9 (stream t s) ≡ true) (m : List ℕ) where

@@ -1,7 +1,7 @@
 -- Every call is orderly, by every list of rows: a refusal is all there is, an error changes nothing, 128 bytes are room enough, each
 -- record written has its size and names and says what it may, and only O and X change which streams are open. What comes to a stream
 -- is enacted as an effect, and each of these holds of any effect: so one walk of the ways of a call shows them all.
-use Prim.Native.Nat.{ℕ, suc, _*_, _<_, _≤_}
+use Prim.Native.Nat.{ℕ, suc, _<_, _≤_}
 use native.Mathlib.Omega.{arith}
 use mathlib.Core.Path.{_≡_, refl, sym, ap, _∙_}
 use mathlib.Core.Bool.{Bool, true, false, not, false≢true}
@@ -38,6 +38,7 @@ use Rattle.paper.specs.declared.StateRow.{StateRow}
 use Rattle.paper.specs.declared.Stream.{Stream}
 use Rattle.paper.proofs.Fair.{Fair, informs, tellsToken, attaches, detaches, binds, unbinds, connects, acceptsHere, acceptsOn, denies, disconnects, resets, answersReset}
 use Rattle.paper.proofs.Walk.{done, failing, serving, Brings, arriving, accepted, gone, withdrawn, reset, confirmed, Way, refusing, adding, opening, closing, answering, bringing, any-walk}
+use Rattle.paper.proofs.RecordsOut.{goodbyes-long}
 use Rattle.keeping.specs.Soundness.{Sound}
 use Rattle.keeping.proofs.Changes.{eight}
 use Rattle.promises.specs.History.{opensStream, closesStream, openAfter}
@@ -226,10 +227,6 @@ module _ (t : Table) (r : List ℕ) where
     errors-goodbyes [] = refl
     errors-goodbyes (n ∷ w) = errors-goodbyes w
 
-    size-goodbyes : (w : List ℕ) → size (map (goodbye i) w) ≡ length w * 10
-    size-goodbyes [] = refl
-    size-goodbyes (n ∷ w) = omega (arith, size-goodbyes w)
-
     right-goodbyes : (w : List ℕ) → ((n : ℕ) → 0 < occ n w → has n (waiting t i) ≡ true) → AllRight t r (input.Close i) (map (goodbye i) w)
     right-goodbyes [] h = omega arith
     right-goodbyes (n ∷ w) h =
@@ -241,7 +238,7 @@ module _ (t : Table) (r : List ℕ) where
     unfolding goodbyes withSlot
     of-closing h =
         chosen P _ _ _
-        (λ e. ends _ (errors-goodbyes (waiting t i)) (λ k. omega (arith, size-goodbyes (waiting t i), k .each i .few, eight (ppaNumbers t) (slot t i) (k .each i)))
+        (λ e. ends _ (errors-goodbyes (waiting t i)) (λ k. omega (arith, goodbyes-long i (waiting t i), k .each i .few, eight (ppaNumbers t) (slot t i) (k .each i)))
         (right-goodbyes (waiting t i) (λ n h. lt-ltb 0 (occ n (waiting t i)) h)))
         (λ e. chosen P _ _ _ (λ f. ends _ refl (λ k. omega arith) (record { sized = refl; opened = refl; may = refl }, omega arith)) (λ f. ends [] refl (λ k. omega arith) (omega arith)))
       where

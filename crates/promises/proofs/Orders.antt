@@ -1,4 +1,4 @@
--- What the records of a call name: an a and a d only a call that was open before it, and each line only what its record may say. Both hold
+-- What the records of a call name: an a and a d only an indication that was open before it, and each line only what its record may say. Both hold
 -- record by record (`Right`), and so of the bytes written.
 use Prim.Native.Nat.{ℕ, zero, suc}
 use mathlib.Core.Path.{_≡_, refl, ap, _∙_}
@@ -61,7 +61,7 @@ heard-right x c = orderly stateRows (tableIn x) (c .bytes) (length (c .room)) .r
 
 -- ---- of a harness
 
--- Every a that a call writes names a call that was open, before it, on the stream that asked; every d with a number other than 0 one
+-- Every a that a call writes names an indication that was open, before it, on the stream that asked; every d with a number other than 0 one
 -- that was open on the stream that it names.
 pub orders-name-open : (x : Harness) (c : Lending)
     → allOf (namesOpen (λ s. openBy s (heardIn x)) (asker (inputOf (c .bytes)))) (recordsIn (length (nextIn x c .written)) (nextIn x c .written)) ≡ true

@@ -13,7 +13,7 @@ use Rattle.paper.specs.ErrorOrder.{verdictBy, verdictOn}
 use Rattle.paper.specs.RecordsIn.{messageIn}
 use Rattle.paper.specs.Sight.{requestAsks, sightBy}
 use Rattle.paper.specs.Sound.{sound}
-use Rattle.paper.specs.StateRows.{stateRows, found}
+use Rattle.paper.specs.StateRows.{stateRows, found, isFound}
 use Rattle.paper.specs.Step.{step}
 use Rattle.paper.specs.declared.Asked.the-variants.{For}
 use Rattle.paper.specs.declared.Carrier.{Carrier}
@@ -27,7 +27,7 @@ use Rattle.paper.specs.declared.Service.{Service}
 use Rattle.paper.specs.declared.StateRow.{StateRow}
 use Rattle.paper.specs.declared.Verdict.{Verdict}
 use Rattle.paper.proofs.Fair.{Asks, asks, Fair, informs, tellsToken, attaches, detaches, binds, unbinds, connects, acceptsHere, acceptsOn, denies, disconnects, resets, answersReset, Offers, Faulty, unknownPpa, unknownMode, managed, automatic, notAllowed, typed, listenedFor, connectQos, notSeven, tooEarly, tooLate, odd, notOpen, acceptQos, othersOpen, ofNone, notIdle, otherPpa, connectionless, denialNotOpen, notZero, Judged, fails, serves, fair}
-use Rattle.promises.specs.Answers.{Complete, isFound, hasRow, isBusy, offersBusy}
+use Rattle.promises.specs.Answers.{Complete, hasRow, isBusy, offersBusy}
 use Rattle.promises.proofs.Verdicts.{errorsBy, complete-tells}
 use Rattle.promises.proofs.Written.{errorsIn}
 

@@ -156,7 +156,7 @@ module _ (i c : ℕ) (own : Slot) (mac m : List ℕ) where
         let o : List Record = ordersIn i c own m (e .order) in
         omega (arith, size-append (o ++ flushIf (e .flush) i) (upsIn i mac m (e .up)), size-append o (flushIf (e .flush) i), size-orders (e .order), size-flush (e .flush), size-ups (e .up))
 
--- ---- which call an order may name, and which line a record may say
+-- ---- which indication an order may name, and which line a record may say
 
 -- the line of a message up
 abbrev pub lineUp : ℕ → Saying → Line
@@ -167,7 +167,7 @@ lineUp i (Says a) = replyLine i a
 pub may-end : (r : List ℕ) (i n : ℕ) (e : End) → mayBeSaid r (Went i n e) ≡ true → mayBeSaid r (pick (eqb n 0) Nothing (Went i n e)) ≡ true
 may-end r i n e h = picked (λ (y : Line). mayBeSaid r y ≡ true) (eqb n 0) Nothing (Went i n e) (λ f. refl) (λ f. h)
 
--- In a call on table t with a record read as q, an a names a call that is open on the stream that asked, and a d with a number one
+-- In a call on table t with a record read as q, an a names an indication that is open on the stream that asked, and a d with a number one
 -- that is open on the stream that it names.
 abbrev pub Opened : Table → Input → Record → Type 0
 Opened t q (order i (lineOrder.Connect at) called) = 0 ≤ 0

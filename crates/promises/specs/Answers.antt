@@ -13,7 +13,7 @@ use Rattle.octets.specs.Numbers.{be32At}
 use Rattle.paper.specs.Base.{isIn, Table, slot, waiting}
 use Rattle.paper.specs.Messages.{askedBy}
 use Rattle.paper.specs.RecordsIn.{inputOf, messageIn}
-use Rattle.paper.specs.StateRows.{found}
+use Rattle.paper.specs.StateRows.{found, isFound}
 use Rattle.paper.specs.Sight.{requestAsks, carrierOf}
 use Rattle.paper.specs.ErrorOrder.{verdictOn}
 use Rattle.paper.specs.RecordsOut.{isMessage}
@@ -24,8 +24,6 @@ use Rattle.paper.specs.declared.Request.{Request}
 use Rattle.paper.specs.declared.Request.the-variants as request
 use Rattle.paper.specs.declared.Stream.{Stream}
 use Rattle.paper.specs.declared.StateRow.{StateRow}
-use Rattle.paper.specs.declared.Found.{Found}
-use Rattle.paper.specs.declared.Found.the-variants.{At, Missing}
 use Rattle.paper.specs.declared.Verdict.{Verdict}
 use Rattle.paper.specs.declared.Carrier.{Carrier}
 use Rattle.paper.specs.declared.Carrier.the-variants.{Itself, Other, None}
@@ -58,11 +56,6 @@ pub record Complete (t : Table) (r : List ℕ) (room i : ℕ) (q : Request) : Ty
 -- the order of errors on a message m to stream i, by what it sees
 abbrev pub verdictOf : List StateRow → Table → ℕ → List ℕ → Verdict
 verdictOf rows t i m = verdictOn rows t i m (askedBy m)
-
--- there is a row
-abbrev pub isFound : Found → Bool
-isFound (At x) = true
-isFound Missing = false
 
 -- a row of the state table for a request of a stream that stands as s
 abbrev pub hasRow : List StateRow → Stream → Request → Bool

@@ -38,7 +38,7 @@ fates s h = posts s (lines h) []
 abbrev pub openBy : ℕ → List Answered → List ℕ
 openBy s h = openOf (newest (fates s h))
 
--- of the record at the start of some bytes: an a names a call that is open on the stream that asked, a d with a number other than 0
+-- of the record at the start of some bytes: an a names an indication that is open on the stream that asked, a d with a number other than 0
 -- one that is open on the stream that it names
 abbrev pub namesOpen : (ℕ → List ℕ) → ℕ → List ℕ → Bool
 namesOpen ofStream from b =

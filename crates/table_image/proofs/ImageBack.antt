@@ -2,14 +2,13 @@
 use Prim.Native.Nat.{ℕ, zero, suc, _+_, _*_, _≤_, _<_}
 use native.Mathlib.Omega.{arith}
 use mathlib.Core.Path.{_≡_, refl, sym, ap, ap₂, _∙_}
-use mathlib.Core.Bool.{Bool, true, false, not}
+use mathlib.Core.Bool.{true, not}
 use mathlib.Core.List.{List, [], _∷_, _++_}
 use lib.ListN.{length, getD, take, drop, take-append-drop, length-drop}
 use lib.Seq.{drop-cons, length-take-le, take-all, getD-take}
-use lib.Dec.{eqb, eqb·suc-zero}
-use borrow.Author.Tests.{ltb-true, eqb-true}
-use Rattle.ledger.specs.Choice.{_⇒_∣_}
-use Rattle.ledger.specs.Tally.{oneIf, occ}
+use lib.Dec.{eqb}
+use borrow.Author.Tests.{eqb-true}
+use Rattle.ledger.specs.Tally.{oneIf}
 use Rattle.ledger.specs.Lists.{listed, joined}
 use Rattle.ledger.proofs.Lists.{listed-length, listed-back}
 use Rattle.octets.specs.Numbers.{be16At, be32At, be16, be32}
@@ -17,9 +16,8 @@ use Rattle.octets.specs.Runs.{Bytes, part}
 use Rattle.octets.proofs.Runs.{part-length, part-bytes, part-add}
 use Rattle.octets.proofs.Numbers.{be32At-part, be16-back, be32-back}
 use Rattle.octets.specs.Blocks.{padTo}
-use Rattle.paper.specs.Base.{numberOf, Slot, stateOf, everyState}
-use Rattle.paper.specs.declared.State.{State}
-use Rattle.paper.specs.declared.State.the-variants.{Unbound, Idle, OutconPending, InconPending, DataXfer, UserResetPending, ProvResetPending}
+use Rattle.paper.specs.Base.{numberOf, Slot, stateOf}
+use Rattle.paper.proofs.StateNumbers.{state-told}
 use Rattle.table_image.specs.Layout.{ppaBase, slotBase, bit, ppaFrom, streamFrom, waitingFrom, maskIn, slotAt, ppaAt, tableOf, maskOf, ppaBytes, streamBytes, waitingBytes, slotBytes, headerBytes, imageOf, isState, tidy}
 use Rattle.table_image.proofs.Bits.{mask-only}
 use Rattle.octets.proofs.Pieces.{joined-listed, pad-listed}
@@ -32,27 +30,10 @@ front c n h = listed-back (λ k. getD c k 0) (take n c) n 0 (length-take-le n c 
 
 -- ---- bytes out of their numbers again
 
--- one test of those for a state's number
-state-test : (n k : ℕ) (a b : State) → numberOf a ≡ k → (eqb n k ≡ false → numberOf b ≡ n) → numberOf (eqb n k ⇒ a ∣ b) ≡ n
-unfolding _⇒_∣_
-state-test n k a b e f = go (eqb n k) refl
-  where
-    go : (t : Bool) → eqb n k ≡ t → numberOf (t ⇒ a ∣ b) ≡ n
-    go true q = e ∙ sym (eqb-true n k q)
-    go false q = f q
-
 -- the number of the state that a byte tells
 number-back : (n : ℕ) → isState n ≡ true → numberOf (stateOf n) ≡ n
-unfolding isState stateOf
-number-back n h =
-    state-test n 3 Unbound _ refl λ a. state-test n 6 Idle _ refl λ b. state-test n 8 OutconPending _ refl λ c.
-    state-test n 9 InconPending _ refl λ d. state-test n 11 DataXfer _ refl λ e. state-test n 12 UserResetPending _ refl λ f.
-    state-test n 13 ProvResetPending _ refl λ g.
-    last n (omega (arith, ltb-true 0 (occ n everyState) h, ap oneIf a, ap oneIf b, ap oneIf c, ap oneIf d, ap oneIf e, ap oneIf f, ap oneIf g))
-  where
-    last : (n : ℕ) → 0 < oneIf (eqb n 0) → 0 ≡ n
-    last zero h = refl
-    last (suc n) h = absurd (omega (arith, ap oneIf (eqb·suc-zero n)))
+unfolding isState
+number-back n h = eqb-true _ _ (state-told n ∙ h)
 
 -- ---- pieces
 

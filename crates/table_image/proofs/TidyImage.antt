@@ -1,19 +1,19 @@
 -- What a tidy image is, part by part, and that the table in it is shaped.
-use Prim.Native.Nat.{ℕ, zero, suc, _+_, _-_, _*_, _≤_, _<_}
+use Prim.Native.Nat.{ℕ, _+_, _-_, _*_, _≤_, _<_}
 use native.Mathlib.Omega.{arith}
 use mathlib.Core.Path.{_≡_, refl, sym, ap, _∙_}
 use mathlib.Core.Bool.{Bool, true}
-use mathlib.Core.List.{List, [], _∷_}
+use mathlib.Core.List.{List, []}
 use lib.ListN.{length, getD}
-use lib.Dec.{eqb, ltb, leb}
-use borrow.Author.Tests.{ltb-true, leb-true, eqb-true}
+use lib.Dec.{eqb, leb}
+use borrow.Author.Tests.{leb-true, eqb-true}
 use Rattle.ledger.specs.Choice.{both}
 use Rattle.ledger.specs.Tally.{allOf}
 use Rattle.ledger.proofs.Tallies.{both-of, all-within}
 use Rattle.ledger.proofs.Lists.{listed-length, listed-at, each-listed}
 use Rattle.octets.specs.Numbers.{be32At}
 use Rattle.octets.specs.Runs.{part, allZero, areBytes}
-use Rattle.octets.proofs.Runs.{part-length}
+use Rattle.octets.proofs.Runs.{part-length, of-areBytes}
 use Rattle.paper.specs.Base.{Slot, closed, noPpa}
 use Rattle.paper.specs.declared.Ppa.{Ppa}
 use Rattle.table_image.specs.Layout.{imageSize, ppaBase, slotBase, ppaFrom, waitingFrom, slotAt, ppaAt, tableOf, isState, tidySlot, slotParts, tidyPpas, tidy}
@@ -35,11 +35,6 @@ pub record Tidy (img : List ℕ) : Type 0 where
   pub few : getD img 3 0 ≤ 8
   pub unused : allZero (part img (ppaBase (getD img 3 0)) (80 - getD img 3 0 * 10)) ≡ true
   pub slots : (i : ℕ) → i < 16 → TidySlot (part img (slotBase i) 42)
-
-bytes-below : (l : List ℕ) → areBytes l ≡ true → (k : ℕ) → getD l k 0 < 256
-bytes-below [] h k = omega arith
-bytes-below (x ∷ l) h zero = ltb-true x 256 (both-of (ltb x 256) (areBytes l) h .0)
-bytes-below (x ∷ l) h (suc k) = bytes-below l (both-of (ltb x 256) (areBytes l) h .1) k
 
 slot-passes : (img : List ℕ) (i : ℕ) → i < 16 → allOf tidySlot (slotParts img) ≡ true → tidySlot (part img (slotBase i) 42) ≡ true
 slot-passes img i b h =
@@ -70,7 +65,7 @@ tidy-parts img h =
     let d = both-of (leb n 8) z (c .0) in
     record {
       size = eqb-true (length img) 760 (a .0);
-      bytes = bytes-below img (e .0);
+      bytes = of-areBytes img (e .0);
       memory = leb-true (getD img 2 0) 1 (b .0);
       few = leb-true n 8 (d .0);
       unused = d .1;

@@ -54,7 +54,7 @@ pub fn granted_at(img: &[u8], i: usize) -> u8
     img[i * 42 + 88 + 8]
 }
 
-pub fn ppa_at(img: &[u8], i: usize) -> PpaNumber
+pub fn attached_at(img: &[u8], i: usize) -> PpaNumber
     requires { ⌜ (i < 16) × (length (now img) ≡ 760) ⌝ }
     ensures { λ r. ⌜ r ≡ stream (tableOf (now (img .entry))) i .ppa ⌝ }
 {

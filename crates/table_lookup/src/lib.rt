@@ -82,7 +82,7 @@ pub fn listens_at(img: &[u8], p: PpaNumber, sap: u32, i: usize) -> bool
     if table_image::granted_at(img, i) == 0 {
         return false;
     }
-    table_image::ppa_at(img, i).0 == p.0
+    table_image::attached_at(img, i).0 == p.0
 }
 
 // The stream that listens for a PPA and SAP; 16 where nobody does.

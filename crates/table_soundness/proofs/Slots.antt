@@ -7,54 +7,30 @@ use lib.ListN.{length, getD, take, drop, replicate, length-map}
 use lib.Seq.{take-take}
 use lib.Dec.{eqb, ltb, leb, eqb·suc-zero}
 use native.Mathlib.Omega.{arith}
-use borrow.Author.Tests.{eqb-true, eq-eqb, ne-eqb, lt-ltb, le-leb}
+use borrow.Author.Tests.{eq-eqb, lt-ltb, le-leb}
 use Rattle.ledger.specs.Choice.{both}
-use Rattle.ledger.specs.Tally.{oneIf, occ, allOf}
-use Rattle.ledger.proofs.Tallies.{both-of, to-both, chosen, both-true, both-assoc, both-swap, same-test, all-both}
+use Rattle.ledger.specs.Tally.{occ, allOf}
+use Rattle.ledger.proofs.Tallies.{both-of, to-both, both-true, both-assoc, both-swap, same-test, all-both}
 use Rattle.ledger.proofs.Lists.{map-at, listed-at}
 use Rattle.ledger.specs.Lists.{joined}
+use Rattle.ledger.proofs.Sums.{occ-joined, all-joined}
 use Rattle.octets.specs.Numbers.{be32At}
 use Rattle.octets.specs.Runs.{part, allZero}
 use Rattle.octets.proofs.Numbers.{be32At-be32, be32At-part}
 use Rattle.octets.proofs.Runs.{zero-replicate}
-use Rattle.paper.specs.Base.{numberOf, Slot, closed, Table, slot, ppaNumbers, noPpa, stateOf, everyState}
+use Rattle.paper.specs.Base.{numberOf, Slot, closed, Table, slot, ppaNumbers, noPpa}
 use Rattle.paper.specs.Sound.{every, holdsNothing, openTests, soundSlot, isSingle, isAlone, remembersOpenings, sound}
 use Rattle.paper.specs.Correlations.{occurrences}
-use Rattle.paper.specs.declared.State.{State}
-use Rattle.paper.specs.declared.State.the-variants.{Unbound, Idle, OutconPending, InconPending, DataXfer, UserResetPending, ProvResetPending}
 use Rattle.paper.specs.declared.Stream.{Stream}
 use Rattle.paper.specs.declared.Ppa.{Ppa}
-use Rattle.table_image.specs.Layout.{ppaBase, slotBase, slotParts, ppaFrom, ppaAt, tableOf, streamBytes, waitingBytes, slotBytes, headerBytes, imageOf, isState, tidy, soundImage}
+use Rattle.table_image.specs.Layout.{ppaBase, slotBase, slotParts, ppaFrom, ppaAt, tableOf, streamBytes, waitingBytes, slotBytes, headerBytes, imageOf, tidy, soundImage}
 use Rattle.table_image.specs.Lent.{Lent}
 use Rattle.octets.proofs.Pieces.{joined-at}
 use Rattle.table_image.proofs.Shapes.{slots-wide, header-length}
 use Rattle.table_image.proofs.Lending.{lent-tidy}
 use Rattle.table_lookup.proofs.Laws.{ppa-place}
-use Rattle.table_soundness.proofs.Laws.{occ-joined, all-joined}
 use Rattle.table_soundness.specs.Groups.{isAttachedRight, isBoundRight, isCountRight, openNumbers, isSingleIn, areSingle, isStreamSound}
 use Rattle.paper.proofs.SoundTests.{holds-nothing}
-
--- ---- states
-
--- the state that a byte tells has the byte as its number exactly if the paper has such a state
-pub state-told : (n : ℕ) → eqb (numberOf (stateOf n)) n ≡ isState n
-unfolding stateOf isState
-state-told n =
-    chosen P (eqb n 3) Unbound _ (known 3 Unbound refl) λ a. chosen P (eqb n 6) Idle _ (known 6 Idle refl) λ b.
-    chosen P (eqb n 8) OutconPending _ (known 8 OutconPending refl) λ c. chosen P (eqb n 9) InconPending _ (known 9 InconPending refl) λ d.
-    chosen P (eqb n 11) DataXfer _ (known 11 DataXfer refl) λ e. chosen P (eqb n 12) UserResetPending _ (known 12 UserResetPending refl) λ f.
-    chosen P (eqb n 13) ProvResetPending _ (known 13 ProvResetPending refl) λ g.
-    rw (a, b, c, d, e, f, g) (last n)
-  where
-    P : State → Type 0
-    P q = eqb (numberOf q) n ≡ ltb 0 (occ n everyState)
-
-    known : (k : ℕ) (q : State) → eqb (numberOf q) k ≡ ltb 0 (occ k everyState) → eqb n k ≡ true → P q
-    known k q r e = let z : n ≡ k = eqb-true n k e in rw z r
-
-    last : (n : ℕ) → eqb 0 n ≡ ltb 0 (oneIf (eqb n 0) + 0)
-    last zero = refl
-    last (suc n) = rw (ne-eqb 0 (suc n) (λ e. omega arith), eqb·suc-zero n)
 
 -- ---- the bytes of a slot
 

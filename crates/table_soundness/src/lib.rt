@@ -224,7 +224,7 @@ fn occurs_in(numbers: &[u32], n: u32) -> u32
     found
 }
 
-fn is_single(numbers: &[u32], n: u32) -> bool
+fn is_single_in(numbers: &[u32], n: u32) -> bool
     requires { ⌜ length (now numbers) ≤ 128 ⌝ }
     ensures { λ r. ⌜ r ≡ isSingleIn (now (numbers .entry)) n ⌝ }
 {
@@ -241,7 +241,7 @@ fn are_single(numbers: &[u32]) -> bool
 {
     let mut k: usize = 0;
     while k < numbers.len() {
-        if !is_single(&numbers[k..], numbers[k]) {
+        if !is_single_in(&numbers[k..], numbers[k]) {
             return false;
         }
         k += 1;
@@ -280,7 +280,7 @@ fn is_alone(img: &[u8], i: usize) -> bool
     if table_image::granted_at(img, i) == 0 {
         return true;
     }
-    let p = table_image::ppa_at(img, i);
+    let p = table_image::attached_at(img, i);
     let sap = table_image::sap_at(img, i) as u32;
     listeners_for(img, p, sap) <= 1
 }

@@ -1,4 +1,4 @@
--- Laws of digits, and of text written piece by piece.
+-- Laws of digits: a number's are found from the last to the first, a byte's two at once.
 use Prim.Native.Nat.{ℕ, zero, suc, _+_, _-_, _*_, _/_, _%_, _^_, _≤_, _<_}
 use native.Mathlib.Omega.{arith}
 use native.Mathlib.Numerals.{add-one}
@@ -76,5 +76,3 @@ hex-append (x ∷ l) b = ap (λ (r : List ℕ). digit (x / 16) ∷ digit (x % 16
 
 pub hex-next : (l : List ℕ) (i : ℕ) → i < length l → hex (take (i + 1) l) ≡ hex (take i l) ++ (digit (getD l i 0 / 16) ∷ digit (getD l i 0 % 16) ∷ [])
 hex-next l i h = ap (λ (k : ℕ). hex (take k l)) (add-one i) ∙ ap hex (take-suc l i 0 h) ∙ hex-append (take i l) (getD l i 0)
-
--- ---- one piece of text behind another

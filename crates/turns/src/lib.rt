@@ -133,7 +133,7 @@ pub fn stopped(t: Turn) -> Turn
 }
 
 // One more, where a call was refused.
-fn counted(n: u64, refused: bool) -> u64
+fn one_more_if(n: u64, refused: bool) -> u64
     requires { ⌜ n < 18446744073709551615 ⌝ }
     ensures { λ r. ⌜ r ≡ n + oneIf refused ⌝ }
 {
@@ -157,7 +157,7 @@ pub fn after_call(input: &[u8], filled: usize, refused: bool, t: Turn) -> Turn
         ended: t.ended,
         filled,
         calls: t.calls + 1,
-        refused: counted(t.refused, refused),
+        refused: one_more_if(t.refused, refused),
         going: 0 < size,
         failed: t.failed,
     }

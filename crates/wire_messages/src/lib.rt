@@ -151,7 +151,7 @@ pub fn asked_by(m: &[u8]) -> Asked
 }
 
 // An address is seven bytes: the MAC, then the SAP.
-pub fn address_in<'a>(m: &'a [u8], at: u8) -> &'a [u8]
+pub fn address_at<'a>(m: &'a [u8], at: u8) -> &'a [u8]
     ensures { λ r. ⌜ now r ≡ part (now (m .entry)) at 7 ⌝ }
 {
     octets::part_at(m, at as usize, 7)

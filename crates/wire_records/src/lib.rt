@@ -73,7 +73,7 @@ fn has_nonzero_padding(r: &[u8]) -> bool
 }
 
 // A message, unless its padding is not zero.
-fn message_in(r: &[u8]) -> Input
+fn read_message(r: &[u8]) -> Input
     requires { ⌜ 99 ≤ length (now r) ⌝ }
     ensures { λ q. ⌜ q ≡ inputAs kind.Message (now (r .entry)) ⌝ }
 {
@@ -93,7 +93,7 @@ fn input_as(k: Kind, r: &[u8]) -> Input
         Kind::AddPpa => Input::AddPpa(PpaNumber(octets::number32_at(r, 1))),
         Kind::Open => Input::Open,
         Kind::Close => Input::Close(stream),
-        Kind::Message => message_in(r),
+        Kind::Message => read_message(r),
         Kind::CallArrives => Input::CallArrives(
             PpaNumber(octets::number32_at(r, 1)),
             octets::byte_at(r, 11),

@@ -19,7 +19,7 @@ returns c =
     let told = c .before .before in
     let a = told .before .before .before .before .before in
     let img = now (a .args .img) in
-    rw (told .d .given .1) (leaves-refused img (now (a .args .room)) (tableOf img) _ _ (subst (Enactable (tableOf img)) (told .d .given .1) (a .pre .3)) (c .refused .ensures))
+    rw (told .d .given .1) (leaves-refused img (now (a .args .room)) (tableOf img) _ _ (subst (Enactable (tableOf img)) (told .d .given .1) (a .pre .3)) (c .refusing .ensures))
 
 returns-2 : tie.Need-returns-2
 returns-2 c =

@@ -14,14 +14,14 @@ use Rattle.octets.proofs.Runs.{part-most}
 put-connect-requires : tie.Need-put-connect-requires
 put-connect-requires c κs =
     let a = c .before .before .before .before .before .before .before .before .args in
-    (rw (c .address-in .ensures) (part-most (now (a .m)) (c .before .before .before .o .given .0 .0) 7), search needs)
+    (rw (c .address-at .ensures) (part-most (now (a .m)) (c .before .before .before .o .given .0 .0) 7), search needs)
 
 returns : tie.Need-returns
 returns c =
     let a = c .before .before .before .before .before .before .before .before .before .before .before .args in
     let s = c .before .before .before .before .before .before .before .before .named-by in
     let told = c .before .before .before .before .before .before .o .given in
-    let called = c .before .before .before .address-in in
+    let called = c .before .before .before .address-at in
     let w = c .before .before .put-connect .ensures in
     let written = order (s .result) (lineOrder.Connect (told .0 .0)) (now (called .result)) in (
       omega (arith, w .1),

@@ -22,7 +22,7 @@ returns c =
     let img = now (a .args .img) in
     let room = now (a .args .room) in
     where-true img room _ _ (ap not (sym (c .before .before .is-readable .ensures ∙ ap isReadable (c .before .before .before .input-of .ensures))) ∙ c .before .if1 .taken)
-    (leaves-refused img room (tableOf img) 10 _ (omega arith) (c .refused .ensures))
+    (leaves-refused img room (tableOf img) 10 _ (omega arith) (c .refusing .ensures))
     ∙ call-on img (now (a .args .r)) room (a .pre)
 
 returns-2 : tie.Need-returns-2
@@ -32,7 +32,7 @@ returns-2 c =
     let room = now (a .args .room) in
     where-false img room _ _ (ap not (sym (c .before .before .before .is-readable .ensures ∙ ap isReadable (c .before .before .before .before .input-of .ensures))) ∙ c .before .before .if1 .left)
     (where-true img room _ _ (lt-ltb _ _ (c .before .if2 .taken))
-    (leaves-refused img room (tableOf img) 1 _ (omega arith) (c .refused2 .ensures)))
+    (leaves-refused img room (tableOf img) 1 _ (omega arith) (c .refusing2 .ensures)))
     ∙ call-on img (now (a .args .r)) room (a .pre)
 
 serve-requires : tie.Need-serve-requires

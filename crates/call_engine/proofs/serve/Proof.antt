@@ -34,8 +34,8 @@ close-stream-requires c κs =
     let a = told .before .before .before .before .before in
     (a .pre .0, sound-lent (now (a .args .img)) (a .pre .1), a .pre .2)
 
-decide-requires : tie.Need-decide-requires
-decide-requires c κs =
+decide-coming-requires : tie.Need-decide-coming-requires
+decide-coming-requires c κs =
     let a = c .before .before .before .before .before .before in
     (a .pre .0, a .pre .1, a .pre .3, to-stream (a .args .q) (c .before .before .match .keys4), c .before .read-of .ensures)
 
@@ -43,7 +43,7 @@ conclude-requires : tie.Need-conclude-requires
 conclude-requires c κs =
     let decided = c .before .before in
     let a = decided .before .before .before .before .before .before .before in
-    (a .pre .0, sound-lent (now (a .args .img)) (a .pre .1), a .pre .2, decided .decide .ensures .fits)
+    (a .pre .0, sound-lent (now (a .args .img)) (a .pre .1), a .pre .2, decided .decide-coming .ensures .fits)
 
 returns : tie.Need-returns
 returns c =
@@ -71,7 +71,7 @@ returns-4 c =
     let concluded = c .before .before .before .before in
     let decided = concluded .before .before .before in
     let a = decided .before .before .before .before .before .before .before in
-    concluded .conclude .ensures ∙ ap (leaving (now (a .args .img)) (now (a .args .room))) (decided .decide .ensures .comes)
+    concluded .conclude .ensures ∙ ap (leaving (now (a .args .img)) (now (a .args .room))) (decided .decide-coming .ensures .comes)
 
 pub serve-spec : {M : Type 1} → statement M
 serve-spec =
@@ -85,7 +85,7 @@ serve-spec =
     (λ c. search needs)
     close-stream-requires
     (λ c κs. search needs)
-    decide-requires
+    decide-coming-requires
     conclude-requires
     (λ c. search needs)
     returns

@@ -8,7 +8,7 @@ use Rattle.call_events.proofs.bring.Statement.{statement}
 use Rattle.call_events.proofs.bring.Tie as tie
 
 returns : tie.Need-returns
-returns c = rw (c .before .before .q .given .1) (c .call-arrives .ensures)
+returns c = rw (c .before .before .q .given .1) (c .arrives .ensures)
 
 returns-2 : tie.Need-returns-2
 returns-2 c = rw (c .before .before .q2 .given .1) (c .named .ensures _)

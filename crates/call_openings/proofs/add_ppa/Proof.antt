@@ -15,20 +15,20 @@ use Rattle.call_openings.proofs.add_ppa.Tie as tie
 
 returns : tie.Need-returns
 unfolding addsPpa leaving _⇒_∣_
-returns c = λ room. simp (← c .before .before .remembers .ensures, c .before .if1 .taken, c .refused .ensures)
+returns c = λ room. simp (← c .before .before .remembers .ensures, c .before .if1 .taken, c .refusing .ensures)
 
 returns-2 : tie.Need-returns-2
 unfolding addsPpa leaving _⇒_∣_
 returns-2 c =
     let r = c .before .before .before .before in
-    λ room. simp (← r .before .remembers .ensures, r .if1 .left, ← c .before .before .ppa-total .ensures, le-leb _ _ (c .before .if2 .taken), c .refused2 .ensures)
+    λ room. simp (← r .before .remembers .ensures, r .if1 .left, ← c .before .before .ppa-total .ensures, le-leb _ _ (c .before .if2 .taken), c .refusing2 .ensures)
 
 returns-3 : tie.Need-returns-3
 unfolding addsPpa leaving _⇒_∣_
 returns-3 c =
     let n = c .before .before .before .before in
     let r = n .before .before .before in
-    λ room. simp (← r .before .remembers .ensures, r .if1 .left, ← n .before .ppa-total .ensures, lt-leb _ _ (n .if2 .left), ← c .before .before .knows .ensures, c .before .if3 .taken, c .refused3 .ensures)
+    λ room. simp (← r .before .remembers .ensures, r .if1 .left, ← n .before .ppa-total .ensures, lt-leb _ _ (n .if2 .left), ← c .before .before .knows .ensures, c .before .if3 .taken, c .refusing3 .ensures)
 
 returns-4 : tie.Need-returns-4
 unfolding addsPpa _⇒_∣_

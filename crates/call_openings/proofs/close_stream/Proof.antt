@@ -16,7 +16,7 @@ use Rattle.call_openings.proofs.close_stream.Tie as tie
 
 returns : tie.Need-returns
 unfolding ofOpen leaving _⇒_∣_
-returns c = simp (← c .before .before .is-open .ensures, c .before .if1 .taken, c .refused .ensures)
+returns c = simp (← c .before .before .is-open .ensures, c .before .if1 .taken, c .refusing .ensures)
 
 put-goodbyes-requires : tie.Need-put-goodbyes-requires
 put-goodbyes-requires c κs =

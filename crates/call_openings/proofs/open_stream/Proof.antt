@@ -19,7 +19,7 @@ returns c =
     let f = c .before .before .free-total in
     let a = c .before .before .before .before .before in
     let t = tableOf (now (a .args .img)) in
-    λ room. simp (le-ltb (lowestFree t) 16 (none-free t (a .pre .1 .shaped) (f .result) (f .ensures) (c .before .if1 .taken)), c .refused .ensures)
+    λ room. simp (le-ltb (lowestFree t) 16 (none-free t (a .pre .1 .shaped) (f .result) (f .ensures) (c .before .if1 .taken)), c .refusing .ensures)
 
 open-slot-requires : tie.Need-open-slot-requires
 open-slot-requires c κs =

@@ -13,8 +13,9 @@ use Rattle.paper.specs.Base.{waiting}
 use Rattle.paper.specs.RecordsOut.{order, bytesOf, allBytes}
 use Rattle.paper.specs.Openings.{goodbye}
 use Rattle.paper.specs.declared.LineOrder.the-variants as lineOrder
+use Rattle.paper.proofs.RecordsOut.{goodbyes-long}
 use Rattle.table_image.specs.Layout.{tableOf}
-use Rattle.call_openings.proofs.Laws.{goodbyes-long, goodbyes-next}
+use Rattle.call_openings.proofs.Laws.{goodbyes-next}
 use Rattle.call_openings.proofs.put_drops.Statement.{statement}
 use Rattle.call_openings.proofs.put_drops.Tie as tie
 

@@ -6,13 +6,14 @@ use denote.Ref.{now}
 use lib.ListN.{length, getD}
 use borrow.Author.Needs.{needs}
 use Rattle.fates_report.specs.Report.{spacedNumber, numbers}
-use Rattle.fates_report.proofs.Laws.{Coming, all-coming, less-coming, none-coming, numbers-end, numbers-next}
+use Rattle.fates_report.proofs.Laws.{numbers-end, numbers-next}
 use Rattle.fates_report.proofs.put_numbers.Statement.{statement}
 use Rattle.fates_report.proofs.put_numbers.Tie as tie
+use Rattle.octets.proofs.Writing.{Unwritten, all-unwritten, less-unwritten, none-unwritten}
 
 abbrev Inv-loop : tie.InvT-loop
 Inv-loop out₀ at register c k e₀ cell₀ left₀ out e cell left =
-    (cell + left ≡ c + k) × (e + 21 * left ≤ at + 21 * k) × (length out ≡ length out₀) × Coming out₀ at (numbers k c register) out e (numbers left cell register)
+    (cell + left ≡ c + k) × (e + 21 * left ≤ at + 21 * k) × (length out ≡ length out₀) × Unwritten out₀ at (numbers k c register) out e (numbers left cell register)
 
 abbrev μ-loop : tie.MeasureT-loop
 μ-loop out₀ at register c k e₀ cell₀ left₀ out e cell left = left
@@ -20,7 +21,7 @@ abbrev μ-loop : tie.MeasureT-loop
 loop-holds : tie.Need-loop-holds Inv-loop μ-loop
 loop-holds c =
     let a = c .before .before .args in
-    (refl, omega arith, refl, all-coming (now (a .out)) (a .at) (numbers (a .k) (a .c) (now (a .register))))
+    (refl, omega arith, refl, all-unwritten (now (a .out)) (a .at) (numbers (a .k) (a .c) (now (a .register))))
 
 loop-again : tie.Need-loop-again Inv-loop μ-loop
 loop-again c =
@@ -31,14 +32,14 @@ loop-again c =
       omega arith,
       omega (arith, one .ensures .1),
       search needs,
-      less-coming (spacedNumber (getD g (l .cell) 0)) (numbers (l .left - 1) (l .cell + 1) g) (omega arith) (l .inv .3) (numbers-next (l .left) (l .cell) g (search needs)) (one .ensures .0),
+      less-unwritten (spacedNumber (getD g (l .cell) 0)) (numbers (l .left - 1) (l .cell + 1) g) (omega arith) (l .inv .3) (numbers-next (l .left) (l .cell) g (search needs)) (one .ensures .0),
     )
 
 returns : tie.Need-returns Inv-loop μ-loop
 returns c =
     let a = c .before .before .before .before .args in
     let l = c .before .loop in
-    (none-coming (l .inv .3) (numbers-end (l .left) (l .cell) (now (a .register)) (c .loop-test .left)), search needs)
+    (none-unwritten (l .inv .3) (numbers-end (l .left) (l .cell) (now (a .register)) (c .loop-test .left)), search needs)
 
 pub put-numbers-spec : {M : Type 1} → statement M
 put-numbers-spec =

@@ -6,13 +6,14 @@ use denote.Ref.{now}
 use lib.ListN.{length}
 use borrow.Author.Needs.{needs}
 use Rattle.fates_report.specs.Report.{wordStillOpen, indicationLine, openLines}
-use Rattle.fates_report.proofs.Laws.{Coming, all-coming, less-coming, none-coming, open-end, open-none, open-next}
+use Rattle.fates_report.proofs.Laws.{open-end, open-none, open-next}
 use Rattle.fates_report.proofs.put_still_open.Statement.{statement}
 use Rattle.fates_report.proofs.put_still_open.Tie as tie
+use Rattle.octets.proofs.Writing.{Unwritten, all-unwritten, less-unwritten, none-unwritten}
 
 abbrev Inv-loop : tie.InvT-loop
 Inv-loop out₀ at register i e₀ c₀ left₀ t8 out e c left =
-    (c + 2 * left ≡ i * 24 + 22) × (left ≤ 8) × (e + 100 * left ≤ at + 800) × (length out ≡ length out₀) × Coming out₀ at (openLines 8 i (i * 24 + 6) register) out e (openLines left i c register)
+    (c + 2 * left ≡ i * 24 + 22) × (left ≤ 8) × (e + 100 * left ≤ at + 800) × (length out ≡ length out₀) × Unwritten out₀ at (openLines 8 i (i * 24 + 6) register) out e (openLines left i c register)
 
 abbrev μ-loop : tie.MeasureT-loop
 μ-loop out₀ at register i e₀ c₀ left₀ t8 out e c left = left
@@ -20,13 +21,13 @@ abbrev μ-loop : tie.MeasureT-loop
 loop-holds : tie.Need-loop-holds Inv-loop μ-loop
 loop-holds c =
     let a = c .before .before .args in
-    (omega arith, omega arith, omega arith, refl, all-coming (now (a .out)) (a .at) (openLines 8 (a .i) (a .i * 24 + 6) (now (a .register))))
+    (omega arith, omega arith, omega arith, refl, all-unwritten (now (a .out)) (a .at) (openLines 8 (a .i) (a .i * 24 + 6) (now (a .register))))
 
 returns : tie.Need-returns Inv-loop μ-loop
 returns c =
     let a = c .before .before .before .before .before .before .args in
     let l = c .before .before .before .loop in
-    (none-coming (l .inv .4) (open-none (l .left) (a .i) (l .c) (now (a .register)) (c .if1 .taken)), search needs)
+    (none-unwritten (l .inv .4) (open-none (l .left) (a .i) (l .c) (now (a .register)) (c .if1 .taken)), search needs)
 
 loop-again : tie.Need-loop-again Inv-loop μ-loop
 loop-again c =
@@ -38,7 +39,7 @@ loop-again c =
       omega arith,
       omega (arith, line .ensures .1),
       search needs,
-      less-coming (indicationLine (a .i) (l .c) wordStillOpen g) (openLines (l .left - 1) (a .i) (l .c + 2) g) (omega arith) (l .inv .4)
+      less-unwritten (indicationLine (a .i) (l .c) wordStillOpen g) (openLines (l .left - 1) (a .i) (l .c + 2) g) (omega arith) (l .inv .4)
           (open-next (l .left) (a .i) (l .c) g (search needs) (c .before .before .before .before .before .if1 .left)) (line .ensures .0),
     )
 
@@ -46,7 +47,7 @@ returns-2 : tie.Need-returns-2 Inv-loop μ-loop
 returns-2 c =
     let a = c .before .before .before .before .args in
     let l = c .before .loop in
-    (none-coming (l .inv .4) (open-end (l .left) (a .i) (l .c) (now (a .register)) (c .loop-test .left)), search needs)
+    (none-unwritten (l .inv .4) (open-end (l .left) (a .i) (l .c) (now (a .register)) (c .loop-test .left)), search needs)
 
 pub put-still-open-spec : {M : Type 1} → statement M
 put-still-open-spec =

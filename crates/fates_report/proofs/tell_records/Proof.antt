@@ -9,13 +9,13 @@ use borrow.Author.Needs.{needs}
 use Rattle.paper.proofs.Sizes.{size-within}
 use Rattle.fates_book.specs.Lines.{lineAt, linesIn}
 use Rattle.fates_report.specs.Report.{lineText}
-use Rattle.fates_report.proofs.Laws.{said-most, Telling, all-telling, less-telling, none-telling}
+use Rattle.fates_report.proofs.Laws.{said-most, StillTelling, all-telling, less-telling, none-telling}
 use Rattle.fates_report.proofs.tell_records.Statement.{statement}
 use Rattle.fates_report.proofs.tell_records.Tie as tie
 
 abbrev Inv-loop : tie.InvT-loop
 Inv-loop register₀ out₀ at q written e₀ i₀ register out e i =
-    (i ≤ 227) × (e ≤ at + 50 * i) × (length out ≡ length out₀) × (length register ≡ length register₀) × Telling out₀ at (linesIn (length written) q written) register₀ q written out e i register
+    (i ≤ 227) × (e ≤ at + 50 * i) × (length out ≡ length out₀) × (length register ≡ length register₀) × StillTelling out₀ at (linesIn (length written) q written) register₀ q written out e i register
 
 abbrev μ-loop : tie.MeasureT-loop
 μ-loop register₀ out₀ at q written e₀ i₀ register out e i = 227 - i

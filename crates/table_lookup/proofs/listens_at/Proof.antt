@@ -18,7 +18,7 @@ returns-3 : tie.Need-returns-3
 returns-3 c =
     let granted = c .before .before .before in
     let sap = granted .before .before in
-    rw (sap-first, ← sap .before .sap-at .ensures, eq-eqb _ _ (sap .if1 .left), ← granted .before .granted-at .ensures, lt-ltb 0 (granted .before .granted-at .result) (omega (arith, granted .if2 .left)), ← c .before .before .ppa-at .ensures)
+    rw (sap-first, ← sap .before .sap-at .ensures, eq-eqb _ _ (sap .if1 .left), ← granted .before .granted-at .ensures, lt-ltb 0 (granted .before .granted-at .result) (omega (arith, granted .if2 .left)), ← c .before .before .attached-at .ensures)
 
 pub listens-at-spec : {M : Type 1} → statement M
 listens-at-spec =

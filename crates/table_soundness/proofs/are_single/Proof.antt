@@ -22,13 +22,13 @@ returns : tie.Need-returns Inv-loop μ-loop
 returns c =
     let tested = c .before in
     let l = tested .before .before .before .before .loop in
-    not-single (now (tested .before .before .before .before .before .before .args .numbers)) (l .k) (search needs) (l .inv) (test-failed (tested .is-single .ensures) (c .if1 .taken))
+    not-single (now (tested .before .before .before .before .before .before .args .numbers)) (l .k) (search needs) (l .inv) (test-failed (tested .is-single-in .ensures) (c .if1 .taken))
 
 loop-again : tie.Need-loop-again Inv-loop μ-loop
 loop-again c =
     let tested = c .before in
     let l = tested .before .before .before .before .loop in
-    one-more (now (tested .before .before .before .before .before .before .args .numbers)) (l .k) (search needs) (l .inv) (test-held (tested .is-single .ensures) (c .if1 .left))
+    one-more (now (tested .before .before .before .before .before .before .args .numbers)) (l .k) (search needs) (l .inv) (test-held (tested .is-single-in .ensures) (c .if1 .left))
 
 returns-2 : tie.Need-returns-2 Inv-loop μ-loop
 returns-2 c = all-single (now (c .before .before .before .args .numbers)) (c .before .loop .k) (search needs) (c .before .loop .inv)

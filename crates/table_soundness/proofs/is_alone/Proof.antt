@@ -20,7 +20,7 @@ unfolding isAlone
 returns-2 c =
     let t = tableOf (now (c .before .before .before .before .before .before .args .img)) in
     let s = stream t (c .before .before .before .before .before .before .args .i) in
-    let e : c .listeners-for .result ≡ listenersOf t (s .ppa) (s .sap) = c .listeners-for .ensures ∙ ap₂ (listenersOf t) (c .before .before .ppa-at .ensures) (c .before .sap-at .ensures) in
+    let e : c .listeners-for .result ≡ listenersOf t (s .ppa) (s .sap) = c .listeners-for .ensures ∙ ap₂ (listenersOf t) (c .before .before .attached-at .ensures) (c .before .sap-at .ensures) in
     rw (lt-ltb 0 (s .granted) (omega (arith, c .before .before .before .if1 .left, c .before .before .before .before .granted-at .ensures))) (ap (λ (m : ℕ). leb m 1) e)
 
 pub is-alone-spec : {M : Type 1} → statement M

@@ -1,9 +1,11 @@
-use Rattle.table_soundness.proofs.Slots.{state-told}
 use borrow.Author.Needs.{needs}
+use Rattle.table_image.specs.Layout.{isState}
 use Rattle.table_soundness.proofs.is_state.Statement.{statement}
 use Rattle.table_soundness.proofs.is_state.Tie as tie
+use Rattle.paper.proofs.StateNumbers.{state-told}
 
 returns : tie.Need-returns
+unfolding isState
 returns c = rw (c .number-of .ensures, c .before .state-of .ensures) (state-told (c .before .before .args .n))
 
 pub is-state-spec : {M : Type 1} → statement M

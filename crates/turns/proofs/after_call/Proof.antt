@@ -29,7 +29,7 @@ returns c =
         ended = t .ended;
         filled = a .filled;
         calls = t .calls + 1;
-        refused = c .counted .ensures i;
+        refused = c .one-more-if .ensures i;
         going = ltb 0 (size i);
         failed = t .failed;
       },
@@ -37,7 +37,7 @@ returns c =
         order = omega (arith, size, record-within (unread input t), length-take (t .end - t .start) (drop (t .start) input));
         within = search needs;
         fits = search needs;
-        counted = omega (arith, c .counted .ensures, one-most (a .refused));
+        counted = omega (arith, c .one-more-if .ensures, one-most (a .refused));
       },
     )
 

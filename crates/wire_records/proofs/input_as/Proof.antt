@@ -3,8 +3,8 @@ use borrow.Author.Needs.{needs}
 use Rattle.wire_records.proofs.input_as.Statement.{statement}
 use Rattle.wire_records.proofs.input_as.Tie as tie
 
-message-in-requires : tie.Need-message-in-requires
-message-in-requires c κs = rw (c .enum-told4 .given .1) at (c .before .before .before .before .pre)
+read-message-requires : tie.Need-read-message-requires
+read-message-requires c κs = rw (c .enum-told4 .given .1) at (c .before .before .before .before .pre)
 
 returns : tie.Need-returns
 returns c = rw (c .before .enum-told .given .1, c .number32-at .ensures)
@@ -13,7 +13,7 @@ returns-3 : tie.Need-returns-3
 returns-3 c = rw (c .enum-told3 .given .1, c .before .before .byte-at .ensures)
 
 returns-4 : tie.Need-returns-4
-returns-4 c = rw (c .before .enum-told4 .given .1) (c .message-in .ensures)
+returns-4 c = rw (c .before .enum-told4 .given .1) (c .read-message .ensures)
 
 returns-5 : tie.Need-returns-5
 returns-5 c = rw (c .before .before .enum-told5 .given .1, c .byte-at2 .ensures, c .before .number32-at2 .ensures)
@@ -43,7 +43,7 @@ input-as-spec =
     (λ c. search needs)
     (λ c. search needs)
     (λ c. search needs)
-    message-in-requires
+    read-message-requires
     (λ c. search needs)
     (λ c κs. search needs)
     (λ c κs. search needs)

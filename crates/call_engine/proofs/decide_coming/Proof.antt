@@ -10,11 +10,11 @@ use Rattle.table_soundness.proofs.Slots.{sound-lent}
 use Rattle.call_outcomes.specs.Deciding.{Rightly}
 use Rattle.call_engine.proofs.Laws.{granted-few, read-size, any-message, from-line}
 use borrow.Author.Needs.{needs}
-use Rattle.call_engine.proofs.decide.Statement.{statement}
-use Rattle.call_engine.proofs.decide.Tie as tie
+use Rattle.call_engine.proofs.decide_coming.Statement.{statement}
+use Rattle.call_engine.proofs.decide_coming.Tie as tie
 
-message-requires : tie.Need-message-requires
-message-requires c κs =
+message-to-requires : tie.Need-message-to-requires
+message-to-requires c κs =
     let told = c .before in
     let a = told .before .before .before .before .before in
     (a .pre .0, sound-lent (now (a .args .img)) (a .pre .1), read-size _ _ _ _ _ (told .q .given .1) (a .pre .2) (a .pre .4))
@@ -29,7 +29,7 @@ returns : tie.Need-returns
 returns c =
     let told = c .before .before in
     let a = told .before .before .before .before .before in
-    let decided = c .message .ensures in
+    let decided = c .message-to .ensures in
     record {
       comes = decided .comes ∙ any-message (tableOf (now (a .args .img))) _ _ _ _ _ (told .q .given .1) (a .pre .4);
       fits = decided .fits;
@@ -44,5 +44,5 @@ returns-2 c =
     (sym (a .pre .4 .event (from-line (a .args .q) (a .pre .3) (kept .match .keys2))))
     (c .occur .ensures)
 
-pub decide-spec : {M : Type 1} → statement M
-decide-spec = tie.close (tie.spec (λ c. search needs) message-requires occur-requires returns returns-2)
+pub decide-coming-spec : {M : Type 1} → statement M
+decide-coming-spec = tie.close (tie.spec (λ c. search needs) message-to-requires occur-requires returns returns-2)

@@ -9,8 +9,8 @@ use Rattle.paper.specs.Step.{ofOpen, message}
 use Rattle.table_image.specs.Layout.{tableOf}
 use Rattle.table_lookup.proofs.Laws.{open-within}
 use borrow.Author.Needs.{needs}
-use Rattle.call_engine.proofs.message.Statement.{statement}
-use Rattle.call_engine.proofs.message.Tie as tie
+use Rattle.call_engine.proofs.message_to.Statement.{statement}
+use Rattle.call_engine.proofs.message_to.Tie as tie
 
 returns : tie.Need-returns
 unfolding ofOpen _⇒_∣_
@@ -32,8 +32,8 @@ returns-3 c =
       fits = omega arith;
     }
 
-answer-requires : tie.Need-answer-requires
-answer-requires c κs =
+answer-message-requires : tie.Need-answer-message-requires
+answer-message-requires c κs =
     let short = c .before in
     let stood = short .before in
     let a = stood .before .before .before .before in
@@ -47,7 +47,7 @@ returns-4 c =
     let long = c .before in
     let short = long .before in
     let stood = short .before in
-    let answered = c .answer .ensures in
+    let answered = c .answer-message .ensures in
     record {
       comes =
           answered .comes
@@ -55,5 +55,5 @@ returns-4 c =
       fits = answered .fits;
     }
 
-pub message-spec : {M : Type 1} → statement M
-message-spec = tie.close (tie.spec (λ c κs. search needs) returns returns-2 returns-3 answer-requires returns-4)
+pub message-to-spec : {M : Type 1} → statement M
+message-to-spec = tie.close (tie.spec (λ c κs. search needs) returns returns-2 returns-3 answer-message-requires returns-4)

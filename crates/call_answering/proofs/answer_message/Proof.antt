@@ -9,8 +9,8 @@ use Rattle.paper.specs.declared.Asked.{Asked}
 use Rattle.table_image.specs.Layout.{tableOf}
 use Rattle.call_answering.proofs.Laws.{wrong, no-place}
 use borrow.Author.Needs.{needs}
-use Rattle.call_answering.proofs.answer.Statement.{statement}
-use Rattle.call_answering.proofs.answer.Tie as tie
+use Rattle.call_answering.proofs.answer_message.Statement.{statement}
+use Rattle.call_answering.proofs.answer_message.Tie as tie
 
 returns : tie.Need-returns
 returns c =
@@ -44,8 +44,8 @@ returns-2 c =
       fits = answered .fits;
     }
 
-pub answer-spec : {M : Type 1} → statement M
-answer-spec =
+pub answer-message-spec : {M : Type 1} → statement M
+answer-message-spec =
     tie.close
     (tie.spec
     (λ c κs. search needs)

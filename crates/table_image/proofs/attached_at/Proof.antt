@@ -1,4 +1,4 @@
--- `table_image::ppa_at` meets its contract: the bytes of a slot are bytes of the image.
+-- `table_image::attached_at` meets its contract: the bytes of a slot are bytes of the image.
 use Prim.Native.Nat.{ℕ, _+_}
 use mathlib.Core.Path.{refl, sym, ap, _∙_}
 use native.Mathlib.Omega.{arith}
@@ -7,8 +7,8 @@ use Rattle.paper.specs.Base.{Slot}
 use Rattle.table_image.specs.Layout.{slotBase, streamFrom, slotAt}
 use Rattle.table_image.proofs.TableBack.{slot-at}
 use borrow.Author.Needs.{needs}
-use Rattle.table_image.proofs.ppa_at.Statement.{statement}
-use Rattle.table_image.proofs.ppa_at.Tie as tie
+use Rattle.table_image.proofs.attached_at.Statement.{statement}
+use Rattle.table_image.proofs.attached_at.Tie as tie
 use Rattle.octets.proofs.Numbers.{part-be32}
 
 returns : tie.Need-returns
@@ -19,7 +19,7 @@ returns c =
     let i = a .args .i in
     ap (λ (n : ℕ). record { 0 = n }) (c .number32-inside .ensures ∙ sym (ap (λ (x : Slot). x .stream .ppa .0) (slot-at img i (a .pre .0)) ∙ part-be32 img (slotBase i) 42 4 (slotBase i + 4) (omega arith) refl))
 
-pub ppa-at-spec : {M : Type 1} → statement M
-ppa-at-spec =
+pub attached-at-spec : {M : Type 1} → statement M
+attached-at-spec =
     tie.close
     (tie.spec (λ c. search needs) (λ c. search needs) (λ c. search needs) (λ c κs. search needs) returns)

@@ -21,7 +21,7 @@ use Rattle.ledger.proofs.Sums.{there, put-in, put-same, put-cases}
 use Rattle.paper.specs.Base.{isAmong, boundStates, Slot, closed, justOpened, Table, slot, stream, waiting, withSlot, withNumbers, withStream, withCounter, remembering}
 use Rattle.paper.specs.declared.Stream.{Stream}
 
-pub record Seen (s : ℕ) (t : Table) (ys : List Line) (u : Table) : Type 0 where
+pub record Traced (s : ℕ) (t : Table) (ys : List Line) (u : Table) : Type 0 where
   pub shaded : waiting u s ≡ shades s ys (waiting t s)
   pub fairly : fairs s ys (waiting t s) ≡ true
   pub granted : (g : ℕ) → (isAmong boundStates (stream t s) ≡ true → stream t s .granted ≡ g) → isAmong boundStates (stream u s) ≡ true → stream u s .granted ≡ grantBy s ys g
@@ -30,7 +30,7 @@ pub record Seen (s : ℕ) (t : Table) (ys : List Line) (u : Table) : Type 0 wher
 
 -- of every stream
 abbrev pub Shows : Table → List Line → Table → Type 0
-Shows t ys u = (s : ℕ) → Seen s t ys u
+Shows t ys u = (s : ℕ) → Traced s t ys u
 
 -- A stream that stands otherwise, and whose grant is the same where it holds a binding.
 abbrev pub SameGrant : Stream → Stream → Type 0

@@ -15,8 +15,8 @@ use Rattle.paper.specs.Step.{comes, arrives}
 use Rattle.paper.specs.declared.Event.the-variants as event
 use Rattle.table_image.specs.Layout.{tableOf}
 use borrow.Author.Needs.{needs}
-use Rattle.call_events.proofs.call_arrives.Statement.{statement}
-use Rattle.call_events.proofs.call_arrives.Tie as tie
+use Rattle.call_events.proofs.arrives.Statement.{statement}
+use Rattle.call_events.proofs.arrives.Tie as tie
 
 returns : tie.Need-returns
 unfolding arrives _⇒_∣_
@@ -71,8 +71,8 @@ returns-4 c =
       fits = (omega (arith, listened .if3 .left), omega arith);
     }
 
-pub call-arrives-spec : {M : Type 1} → statement M
-call-arrives-spec =
+pub arrives-spec : {M : Type 1} → statement M
+arrives-spec =
     tie.close
     (tie.spec
     (λ c κs. search needs)
