@@ -34,8 +34,8 @@ unfolding soundImage
 parts img h = both-of (tidy img) (sound (tableOf img)) h
 
 -- at most 8 are granted
-pub granted-few : (img : List ℕ) → soundImage img ≡ true → (i : ℕ) → stream (tableOf img) i .granted ≤ 8
-granted-few img h = few-granted (tableOf img) (parts img h .1)
+pub image-grants-few : (img : List ℕ) → soundImage img ≡ true → (i : ℕ) → stream (tableOf img) i .granted ≤ 8
+image-grants-few img h = few-granted (tableOf img) (parts img h .1)
 
 -- ---- what a record asks for, by the tags of what was read
 

@@ -1,27 +1,19 @@
--- Laws of what a call leaves: of records written, of a refusal, of one change of the image after another.
+-- Laws of what a call leaves: of records written, of a refusal, by one test after another.
 use Prim.Native.Nat.{ℕ, _+_, _<_}
 use native.Mathlib.Omega.{arith}
-use mathlib.Core.Path.{_≡_, sym, ap, subst, _∙_, refl}
+use mathlib.Core.Path.{_≡_, sym, ap, refl}
 use mathlib.Core.Bool.{Bool, true, false, false≢true}
 use mathlib.Core.List.{List}
-use lib.Dec.{eqb}
 use borrow.Author.Tests.{lt-ltb}
 use lib.ListN.{length}
 use Rattle.ledger.specs.Choice.{_⇒_∣_, both}
-use Rattle.ledger.specs.Tally.{firstOf}
 use Rattle.octets.specs.Runs.{over}
-use Rattle.paper.specs.Base.{Table, macOf}
-use Rattle.paper.specs.declared.Ppa.{Ppa}
-use Rattle.paper.specs.declared.PpaNumber.{PpaNumber}
+use Rattle.paper.specs.Base.{Table}
 use Rattle.paper.specs.RecordsOut.{Record, allBytes}
 use Rattle.paper.specs.Refusals.{Outcome, refused, served, notSound}
 use Rattle.paper.specs.Sound.{sound}
 use Rattle.paper.specs.Step.{stepBy}
 use Rattle.table_image.specs.Layout.{tableOf, imageOf, tidy, soundImage}
-use Rattle.table_image.specs.Shape.{Shaped}
-use Rattle.table_image.specs.Lent.{Lent}
-use Rattle.table_image.proofs.TableBack.{table-back}
-use Rattle.table_image.proofs.Lending.{lent-image}
 use Rattle.call_outcomes.specs.Leaving.{Left, left, refusing, leaving, callOf}
 
 -- a served call leaves its table's image and its records at the start of the room
@@ -47,29 +39,6 @@ where-false img room o p e h = rw e h
 pub leaves-refused : (img room : List ℕ) (t : Table) (k n : ℕ) → 0 < k → n ≡ refusing k → left n img room ≡ leaving img room (refused t k)
 unfolding leaving _⇒_∣_
 leaves-refused img room t k n h e = rw (lt-ltb 0 k h) (ap (λ (m : ℕ). left m img room) e)
-
--- ---- one change of the image after another
-
--- an image that a change left is lent to the next one,
-pub lent-after : (t : Table) → Shaped t → (img : List ℕ) → img ≡ imageOf t → Lent img
-lent-after t s img e = subst Lent (sym e) (lent-image t s)
-
--- which finds the table that the first one left,
-pub table-after : (t : Table) → Shaped t → (img : List ℕ) → img ≡ imageOf t → tableOf img ≡ t
-table-after t s img e = ap tableOf e ∙ table-back t s
-
--- and changes that
-pub change-after : (t : Table) → Shaped t → (f : Table → Table) (img : List ℕ) → img ≡ imageOf t → imageOf (f (tableOf img)) ≡ imageOf (f t)
-change-after t s f img e = ap (λ (u : Table). imageOf (f u)) (table-after t s img e)
-
--- ---- parts of what is lent
-
--- a MAC of the table has six bytes
-pub mac-length : (t : Table) → Shaped t → (p : PpaNumber) → length (macOf t p) ≡ 6
-unfolding macOf
-mac-length t s p = s .macs (firstOf (λ (q : Ppa). eqb (q .number .0) (p .0)) (t .ppas))
-
--- ---- one record written
 
 -- "16: a table that isn't sound", before all other tests.
 pub unsound-gives-sixteen : (img r room : List ℕ) → soundImage img ≡ false → callOf img r room ≡ left (refusing notSound) img room

@@ -123,9 +123,9 @@ module _ (img : List ℕ) (h : tidy img ≡ true) where
   ppas-small p b = ap (occ p) (map-listed (λ (p : Ppa). p .number .0) (ppaAt img) 0 (getD img 3 0))
       ∙ none-listed (λ k. be32At (part img (ppaBase k) 10) 0) 0 (getD img 3 0) p (λ k. be32At-small (part img (ppaBase k) 10) 0 (part-bytes img (ppaBase k) 10 bytes)) b
 
-pub lent-sound : (img : List ℕ) → soundImage img ≡ true → Sound (tableOf img)
+pub table-sound : (img : List ℕ) → soundImage img ≡ true → Sound (tableOf img)
 unfolding soundImage
-lent-sound img s =
+table-sound img s =
     let h : (tidy img ≡ true) × (sound (tableOf img) ≡ true) = both-of _ _ s in
     let q : Shaped (tableOf img) = shaped-table img (h .0) in
     sound-tested (tableOf img) (q .sixteen) (counter-small img (h .0)) (λ j. (q .macs j, macs-tidy img (h .0) j)) (numbers-small img (h .0)) (ppas-small img (h .0)) (h .1)
@@ -139,7 +139,7 @@ pub call-keeps : (img r room : List ℕ) → soundImage img ≡ true → Bytes r
 unfolding callOf leaving
 call-keeps img r room s b =
     let t : Table = tableOf img in
-    chosen P _ _ _ (λ e. s) (λ e. chosen P _ _ _ (λ e. s) (λ e. image-sound (step t r (length room) .table) (keeps t (lent-sound img s) r b (length room))))
+    chosen P _ _ _ (λ e. s) (λ e. chosen P _ _ _ (λ e. s) (λ e. image-sound (step t r (length room) .table) (keeps t (table-sound img s) r b (length room))))
   where
     P : Left → Type 0
     P l = soundImage (l .image) ≡ true

@@ -14,7 +14,7 @@ use Rattle.paper.specs.Step.{step}
 use Rattle.table_image.specs.Layout.{tableOf, tidy, soundImage}
 use Rattle.call_outcomes.specs.Leaving.{Left, left, refusing, refusalIn, leaving, callOf}
 use Rattle.call_outcomes.proofs.Laws.{unsound-gives-sixteen}
-use Rattle.keeping.proofs.Images.{lent-sound}
+use Rattle.keeping.proofs.Images.{table-sound}
 use borrow.Author.Tests.{ltb-false, not-true}
 use Rattle.promises.proofs.Refused.{refusal-small}
 use Rattle.promises.proofs.Whole.{room-enough}
@@ -25,7 +25,7 @@ unfolding callOf leaving soundImage
 refusal-is-the-papers img r room e =
     chosen P _ _ _ (λ f. absurd (false≢true (sym (not-true _ f) ∙ both-of (tidy img) (sound (tableOf img)) e .0))) (λ f. chosen P _ _ _
     (λ g. omega (arith, refusal-small (tableOf img) r (length room)))
-    (λ g. omega (arith, ltb-false 0 (step (tableOf img) r (length room) .refusal) g, room-enough (tableOf img) (lent-sound img e) r (length room))))
+    (λ g. omega (arith, ltb-false 0 (step (tableOf img) r (length room) .refusal) g, room-enough (tableOf img) (table-sound img e) r (length room))))
   where
     P : Left → Type 0
     P l = refusalIn (l .number) ≡ step (tableOf img) r (length room) .refusal
@@ -45,5 +45,5 @@ refused-leaves-all img r room = go (soundImage img) refl
 
     go : (b : Bool) → soundImage img ≡ b → Bare (callOf img r room)
     go true e = chosen Bare _ _ _ (λ f h. same notSound (omega arith)) (λ f. chosen Bare _ _ _ (λ g h. same (step (tableOf img) r (length room) .refusal) (refusal-small (tableOf img) r (length room)))
-        (λ g h. absurd (omega (arith, h, room-enough (tableOf img) (lent-sound img e) r (length room)))))
+        (λ g h. absurd (omega (arith, h, room-enough (tableOf img) (table-sound img e) r (length room)))))
     go false e = subst Bare (sym (unsound-gives-sixteen img r room e)) (λ h. same notSound (omega arith))

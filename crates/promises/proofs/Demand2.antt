@@ -38,7 +38,7 @@ use Rattle.promises.specs.History.{Answered}
 use Rattle.promises.proofs.Demand1.{refusal-is-the-papers}
 use Rattle.promises.proofs.ErrorAck.{error-leaves-image}
 use Rattle.promises.proofs.Harness.{outcome, IsStep, one-call}
-use Rattle.keeping.proofs.Images.{lent-sound}
+use Rattle.keeping.proofs.Images.{table-sound}
 use Rattle.promises.proofs.OutState.{gets-outState}
 use Rattle.keeping.proofs.Tested.{sound-test}
 use Rattle.promises.proofs.Verdicts.{errorsBy, answer-tells}
@@ -50,8 +50,8 @@ errors-of-the-call : (img : List ℕ) (c : Lending) → soundImage img ≡ true
 unfolding soundImage
 errors-of-the-call img c e =
     let i : IsStep (tableOf img) c (leftOn img c)
-    = subst (λ (l : List ℕ). IsStep (tableOf img) c (leftOn l c)) (image-back img (both-of (tidy img) _ e .0)) (one-call (tableOf img) (lent-sound img e) c) in
-    ap (λ (a : Answered). errorsTold (a .written)) (i .answer) ∙ told-step (tableOf img) (lent-sound img e) (c .bytes) (length (c .room))
+    = subst (λ (l : List ℕ). IsStep (tableOf img) c (leftOn l c)) (image-back img (both-of (tidy img) _ e .0)) (one-call (tableOf img) (table-sound img e) c) in
+    ap (λ (a : Answered). errorsTold (a .written)) (i .answer) ∙ told-step (tableOf img) (table-sound img e) (c .bytes) (length (c .room))
 
 -- A message that is not refused was sent to an open stream, has 4 to 96 bytes, and had room; and tells the error of its verdict.
 record Passed (t : Table) (r : List ℕ) (room i l : ℕ) (o : Outcome) : Type 0 where
@@ -76,7 +76,7 @@ module _ (t : Table) (r : List ℕ) (room i l : ℕ) where
 call-passed : (img : List ℕ) (c : Lending) (i l : ℕ) → soundImage img ≡ true → inputOf (c .bytes) ≡ input.Message i l → cameBack c (leftOn img c) .refusal ≡ 0
     → Passed (tableOf img) (c .bytes) (length (c .room)) i l (outcome (tableOf img) c)
 call-passed img c i l s e z =
-    step-passed (tableOf img) (c .bytes) (length (c .room)) i l (sound-test (tableOf img) (lent-sound img s)) e (sym (refusal-is-the-papers img (c .bytes) (c .room) s) ∙ z)
+    step-passed (tableOf img) (c .bytes) (length (c .room)) i l (sound-test (tableOf img) (table-sound img s)) e (sym (refusal-is-the-papers img (c .bytes) (c .room) s) ∙ z)
 
 -- A message of a code that we serve, of its full size, is complete where it is not refused.
 pub complete-by : (img : List ℕ) (c : Lending) (i l : ℕ) (q : Request) → soundImage img ≡ true → inputOf (c .bytes) ≡ input.Message i l
@@ -106,7 +106,7 @@ row-tells-none img c i l a s e z v = message-tells img c i l s e z ∙ ap errors
 -- accept, with no earlier error in the paper's order, offers another stream that isn't idle."
 pub call-gets-outState : (img : List ℕ) (c : Lending) (i : ℕ) (q : Request) → soundImage img ≡ true → Complete (tableOf img) (c .bytes) (length (c .room)) i q
     → has outState (errorsTold (cameBack c (leftOn img c) .written)) ≡ either (not (hasRow stateRows (stream (tableOf img) i) q)) (offersBusy (tableOf img) i q)
-call-gets-outState img c i q e m = ap (has outState) (errors-of-the-call img c e) ∙ gets-outState (tableOf img) (sound-test (tableOf img) (lent-sound img e)) (c .bytes) (length (c .room)) i q m
+call-gets-outState img c i q e m = ap (has outState) (errors-of-the-call img c e) ∙ gets-outState (tableOf img) (sound-test (tableOf img) (table-sound img e)) (c .bytes) (length (c .room)) i q m
 
 -- "A message answered with DL_ERROR_ACK changes no stream", nor any byte of the image, whatever image is lent.
 pub call-error-leaves-image : (img : List ℕ) (c : Lending) → 0 < length (errorsTold (cameBack c (leftOn img c) .written)) → leftOn img c .image ≡ img

@@ -25,9 +25,9 @@ use Rattle.promises.proofs.Verdicts.{errorsBy}
 
 module _ (t : Table) (s : ℕ) (k : Sound t) (e : isIn 9 (stream t s) ≡ true) (m : List ℕ) where
   -- the row of a request in state 9
-  in-nine : (cause : ℕ) → found stateRows (stream t s) cause ≡ foundIn stateRows 9 1 cause
+  found-in-nine : (cause : ℕ) → found stateRows (stream t s) cause ≡ foundIn stateRows 9 1 cause
   unfolding found
-  in-nine cause =
+  found-in-nine cause =
       let n : number (stream t s) ≡ 9 = eqb-true _ _ e in
       ap (λ (a : ℕ). foundIn stateRows a (stream t s .mode) cause) n
       ∙ ap (λ (a : ℕ). foundIn stateRows 9 a cause) (k .each s .connected (ap (λ (a : ℕ). has a connectionStates) n))
@@ -35,7 +35,7 @@ module _ (t : Table) (s : ℕ) (k : Sound t) (e : isIn 9 (stream t s) ≡ true) 
   -- a request with a row there goes by the order of errors
   judged : (q : Request) → Asks m q → isFound (foundIn stateRows 9 1 (requestAsks q .cause)) ≡ true
       → (c : ℕ) × Judged t s m q c (verdictOn stateRows t s m (For q))
-  judged q a h = go (found stateRows (stream t s) (requestAsks q .cause)) (ap isFound (in-nine (requestAsks q .cause)) ∙ h)
+  judged q a h = go (found stateRows (stream t s) (requestAsks q .cause)) (ap isFound (found-in-nine (requestAsks q .cause)) ∙ h)
     where
       go : (f : Found) → isFound f ≡ true → (c : ℕ) × Judged t s m q c (verdictBy (sightBy t s f (requestAsks q .question)) (For q) f)
       go (At x) h = (_, fair t s m x q a)

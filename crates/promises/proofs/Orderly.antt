@@ -47,8 +47,8 @@ use Rattle.promises.proofs.Written.{errorsIn, errorsOf, service-silent,
 use Rattle.promises.proofs.Runs.{answeredBy}
 use Rattle.octets.proofs.Runs.{part-length}
 
-none-first : (s : ℕ) → eqb 0 (suc s) ≡ false
-none-first s = ne-eqb 0 (suc s) (λ e. omega (arith, e))
+never-zero : (s : ℕ) → eqb 0 (suc s) ≡ false
+never-zero s = ne-eqb 0 (suc s) (λ e. omega (arith, e))
 
 -- ---- no effect opens or closes a stream
 
@@ -91,7 +91,7 @@ module _ (t : Table) (r : List ℕ) (q : Input) where
     pub door : Sound t → (s : ℕ) → slot (o .table) s .isOpen ≡ openAfter s (answeredBy r o) (slot t s .isOpen)
 
   no-token : (o : Outcome) → o .opened ≡ 0 → (s : ℕ) → opensStream s (answeredBy r o) ≡ eqb (o .opened) (suc s)
-  no-token o e s = rw (e, none-first s) (ap (both (eqb (getD r 0 0) 79)) (both-none (eqb (o .refusal) 0)) ∙ both-none (eqb (getD r 0 0) 79))
+  no-token o e s = rw (e, never-zero s) (ap (both (eqb (getD r 0 0) 79)) (both-none (eqb (o .refusal) 0)) ∙ both-none (eqb (getD r 0 0) 79))
 
   of-refusal : {n : ℕ} → 0 < n → n < 17 → (sound t ≡ true → n < 16) → Orderly (refused t n)
   of-refusal {n} h g k = record {
@@ -118,7 +118,7 @@ module _ (t : Table) (r : List ℕ) (q : Input) where
     right = a;
     token = no-token (served u rs) refl;
     alone = λ e. absurd (omega arith);
-    door = λ k s. d k s ∙ rw (no-token (served u rs) refl s, none-first s);
+    door = λ k s. d k s ∙ rw (no-token (served u rs) refl s, never-zero s);
   }
 
   -- and no stream is opened or closed: the record is no X

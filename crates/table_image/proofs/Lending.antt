@@ -6,8 +6,10 @@ use mathlib.Core.Bool.{true, not}
 use mathlib.Core.List.{List}
 use lib.ListN.{length}
 use Rattle.ledger.specs.Tally.{oneIf}
+use Rattle.ledger.proofs.Tallies.{both-of}
 use Rattle.paper.specs.Base.{Table, slot}
-use Rattle.table_image.specs.Layout.{bit, maskIn, tableOf, maskOf, imageOf, tidy}
+use Rattle.paper.specs.Sound.{sound}
+use Rattle.table_image.specs.Layout.{bit, maskIn, tableOf, maskOf, imageOf, tidy, soundImage}
 use Rattle.table_image.specs.Shape.{Shaped}
 use Rattle.table_image.specs.Lent.{Lent}
 use Rattle.table_image.proofs.Bits.{mask-bit}
@@ -31,3 +33,22 @@ mask-lent img l = ap maskIn (sym (l .same)) ∙ mask-back (tableOf img) (l .shap
 
 pub bit-lent : (img : List ℕ) → Lent img → (i : ℕ) → i < 16 → bit (maskIn img) i ≡ oneIf (not (slot (tableOf img) i .isOpen))
 bit-lent img l i h = ap (λ (m : ℕ). bit m i) (mask-lent img l) ∙ mask-bit (tableOf img .slots) i (omega (arith, l .shaped .sixteen))
+
+-- a sound image is lent
+pub sound-lent : (img : List ℕ) → soundImage img ≡ true → Lent img
+unfolding soundImage
+sound-lent img h = lent-tidy img (both-of (tidy img) (sound (tableOf img)) h .0)
+
+-- ---- one change of the image after another
+
+-- an image that a change left is lent to the next one,
+pub lent-after : (t : Table) → Shaped t → (img : List ℕ) → img ≡ imageOf t → Lent img
+lent-after t s img e = subst Lent (sym e) (lent-image t s)
+
+-- which finds the table that the first one left,
+pub table-after : (t : Table) → Shaped t → (img : List ℕ) → img ≡ imageOf t → tableOf img ≡ t
+table-after t s img e = ap tableOf e ∙ table-back t s
+
+-- and changes that
+pub change-after : (t : Table) → Shaped t → (f : Table → Table) (img : List ℕ) → img ≡ imageOf t → imageOf (f (tableOf img)) ≡ imageOf (f t)
+change-after t s f img e = ap (λ (u : Table). imageOf (f u)) (table-after t s img e)

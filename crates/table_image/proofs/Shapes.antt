@@ -4,16 +4,21 @@ use native.Mathlib.Omega.{arith}
 use mathlib.Core.Path.{_≡_, refl, _∙_}
 use mathlib.Core.List.{List, [], _∷_}
 use lib.ListN.{length, getD, length-append, length-set}
+use lib.Dec.{eqb}
+use mathlib.Core.Bool.{true}
 use Rattle.octets.specs.Blocks.{flat}
 use Rattle.octets.proofs.Blocks.{flat-length}
-use Rattle.paper.specs.Base.{Slot, Table, slot, waiting, closed, justOpened, noPpa, withSlot, withStream, withNumbers, withCounter, withPpa, remembering}
+use Rattle.paper.specs.Base.{Slot, Table, slot, waiting, closed, justOpened, noPpa, withSlot, withStream, withNumbers, withCounter, withPpa, remembering, macOf}
 use Rattle.paper.specs.declared.Stream.{Stream}
 use Rattle.paper.specs.declared.Ppa.{Ppa}
+use Rattle.paper.specs.declared.PpaNumber.{PpaNumber}
 use Rattle.table_image.specs.Layout.{ppaBytes, streamBytes, waitingBytes, slotBytes, headerBytes, imageOf}
 use Rattle.table_image.specs.Shape.{Shaped}
 use Rattle.octets.proofs.Pieces.{joined-length, pad-length}
 use Rattle.ledger.proofs.Lists.{each-set, each-more}
 use Rattle.ledger.specs.Lists.{joined}
+use Rattle.ledger.specs.Tally.{firstOf}
+use Rattle.ledger.proofs.Tallies.{within}
 
 -- ---- lengths
 
@@ -102,3 +107,12 @@ module _ (t : Table) (s : Shaped t) where
 -- a stream opened
 pub shaped-opening : (t : Table) → Shaped t → (i : ℕ) → Shaped (withSlot (remembering t) i justOpened)
 shaped-opening t s i = shaped-slot (remembering t) (shaped-memory t s) i justOpened (omega arith)
+
+-- a MAC of a shaped table has six bytes
+pub mac-length : (t : Table) → Shaped t → (p : PpaNumber) → length (macOf t p) ≡ 6
+unfolding macOf
+mac-length t s p = s .macs (firstOf (λ (q : Ppa). eqb (q .number .0) (p .0)) (t .ppas))
+
+-- an open stream is one of the 16
+pub open-within : (t : Table) → Shaped t → (i : ℕ) → slot t i .isOpen ≡ true → i < 16
+open-within t s i e = omega (arith, within (λ (x : Slot). x .isOpen) closed refl (t .slots) i e, s .sixteen)

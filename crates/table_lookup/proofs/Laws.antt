@@ -7,14 +7,12 @@ use mathlib.Core.List.{List}
 use lib.ListN.{length, getD}
 use lib.Dec.{eqb, ltb}
 use Rattle.ledger.specs.Choice.{both}
-use Rattle.ledger.proofs.Tallies.{within}
 use Rattle.ledger.proofs.Lists.{listed-length, listed-at}
-use Rattle.paper.specs.Base.{Slot, Table, slot, closed, noPpa}
+use Rattle.paper.specs.Base.{noPpa}
 use Rattle.paper.specs.Saps.{listens}
 use Rattle.paper.specs.declared.PpaNumber.{PpaNumber}
 use Rattle.paper.specs.declared.Stream.{Stream}
 use Rattle.table_image.specs.Layout.{ppaAt, tableOf}
-use Rattle.table_image.specs.Shape.{Shaped}
 
 -- ---- who listens
 
@@ -39,7 +37,3 @@ unfolding tableOf
 ppa-place img k h =
     let z : 0 + k ≡ k = omega arith in
     listed-at (ppaAt img) 0 (getD img 3 0) k noPpa (omega (arith, listed-length (ppaAt img) 0 (getD img 3 0))) ∙ ap (ppaAt img) z
-
--- an open stream is one of the 16
-pub open-within : (t : Table) → Shaped t → (i : ℕ) → slot t i .isOpen ≡ true → i < 16
-open-within t s i e = omega (arith, within (λ (x : Slot). x .isOpen) closed refl (t .slots) i e, s .sixteen)

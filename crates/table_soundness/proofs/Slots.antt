@@ -10,7 +10,7 @@ use native.Mathlib.Omega.{arith}
 use borrow.Author.Tests.{eq-eqb, lt-ltb, le-leb}
 use Rattle.ledger.specs.Choice.{both}
 use Rattle.ledger.specs.Tally.{occ, allOf}
-use Rattle.ledger.proofs.Tallies.{both-of, to-both, both-true, both-assoc, both-swap, same-test, all-both}
+use Rattle.ledger.proofs.Tallies.{to-both, both-true, both-assoc, both-swap, same-test, all-both}
 use Rattle.ledger.proofs.Lists.{map-at, listed-at}
 use Rattle.ledger.specs.Lists.{joined}
 use Rattle.ledger.proofs.Sums.{occ-joined, all-joined}
@@ -23,19 +23,18 @@ use Rattle.paper.specs.Sound.{every, holdsNothing, openTests, soundSlot, isSing
 use Rattle.paper.specs.Correlations.{occurrences}
 use Rattle.paper.specs.declared.Stream.{Stream}
 use Rattle.paper.specs.declared.Ppa.{Ppa}
-use Rattle.table_image.specs.Layout.{ppaBase, slotBase, slotParts, ppaFrom, ppaAt, tableOf, streamBytes, waitingBytes, slotBytes, headerBytes, imageOf, tidy, soundImage}
+use Rattle.table_image.specs.Layout.{ppaBase, slotBase, slotParts, ppaFrom, ppaAt, tableOf, streamBytes, waitingBytes, slotBytes, headerBytes, imageOf}
 use Rattle.table_image.specs.Lent.{Lent}
 use Rattle.octets.proofs.Pieces.{joined-at}
 use Rattle.table_image.proofs.Shapes.{slots-wide, header-length}
-use Rattle.table_image.proofs.Lending.{lent-tidy}
 use Rattle.table_lookup.proofs.Laws.{ppa-place}
 use Rattle.table_soundness.specs.Groups.{isAttachedRight, isBoundRight, isCountRight, openNumbers, isSingleIn, areSingle, isStreamSound}
 use Rattle.paper.proofs.SoundTests.{holds-nothing}
 
 -- ---- the bytes of a slot
 
-pub slot-part : (img : List ℕ) (i : ℕ) → i < 16 → getD (slotParts img) i [] ≡ part img (slotBase i) 42
-slot-part img i h =
+pub slot-of-parts : (img : List ℕ) (i : ℕ) → i < 16 → getD (slotParts img) i [] ≡ part img (slotBase i) 42
+slot-of-parts img i h =
     let at : ℕ → List ℕ = λ k. part img (slotBase k) 42 in
     let z : 0 + i ≡ i = omega arith in
     listed-at at 0 16 i [] h ∙ ap at z
@@ -45,9 +44,9 @@ slot-part img i h =
 pub ppas-many : (t : Table) → length (ppaNumbers t) ≡ length (t .ppas)
 ppas-many t = length-map (t .ppas) (λ (p : Ppa). p .number .0)
 
-pub number-at : (img : List ℕ) (k : ℕ) → k < length (tableOf img .ppas) → be32At img (ppaBase k) ≡ getD (ppaNumbers (tableOf img)) k 0
+pub ppa-number-at : (img : List ℕ) (k : ℕ) → k < length (tableOf img .ppas) → be32At img (ppaBase k) ≡ getD (ppaNumbers (tableOf img)) k 0
 unfolding ppaAt ppaFrom
-number-at img k h =
+ppa-number-at img k h =
     let c : List ℕ = drop (ppaBase k) img in
     let number : Ppa → ℕ = λ p. p .number .0 in
     sym (be32At-part img (ppaBase k))
@@ -115,9 +114,3 @@ sound-groups t h =
     let single : Slot → Bool = λ x. allOf (isSingle t) (x .waiting) in
     let alone : Slot → Bool = λ x. isAlone t (x .stream) in
     rw (le-leb (length (t .ppas)) 8 h, both-true (remembersOpenings t), ← singles t, all-both own alone (t .slots), both-assoc (allOf own (t .slots)) (allOf alone (t .slots)), both-swap (allOf alone (t .slots)) (allOf single (t .slots)))
-
--- ---- what a sound table and a sound image give
-
-pub sound-lent : (img : List ℕ) → soundImage img ≡ true → Lent img
-unfolding soundImage
-sound-lent img h = lent-tidy img (both-of (tidy img) (sound (tableOf img)) h .0)

@@ -3,7 +3,8 @@ use denote.Ref.{now}
 use Rattle.paper.specs.Base.{Table, slot, macAt}
 use Rattle.paper.specs.Effects.{changed, carried, enacted, told}
 use Rattle.table_image.specs.Layout.{tableOf}
-use Rattle.call_outcomes.proofs.Laws.{lent-after, change-after, leaves-served}
+use Rattle.table_image.proofs.Lending.{lent-after, change-after}
+use Rattle.call_outcomes.proofs.Laws.{leaves-served}
 use Rattle.call_enacting.proofs.Laws.{shaped-changed}
 use borrow.Author.Needs.{needs}
 use Rattle.call_enacting.proofs.enact.Statement.{statement}

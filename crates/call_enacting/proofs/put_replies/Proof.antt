@@ -5,7 +5,7 @@ use Rattle.paper.specs.Base.{macAt}
 use Rattle.paper.specs.RecordsOut.{up}
 use Rattle.paper.specs.Effects.{behindReply, upsIn}
 use Rattle.table_image.specs.Layout.{tableOf}
-use Rattle.call_outcomes.proofs.Laws.{mac-length}
+use Rattle.table_image.proofs.Shapes.{mac-length}
 use Rattle.paper.proofs.Tails.{tail-most}
 use Rattle.paper.proofs.RecordsOut.{one-long, one-over}
 use Rattle.paper.proofs.Sizes.{up-length}

@@ -13,7 +13,7 @@ use Rattle.paper.specs.Effects.{behindReply}
 use Rattle.paper.specs.declared.Reply.{Reply}
 use Rattle.paper.proofs.Tails.{tail-most}
 use Rattle.table_image.specs.Layout.{tableOf}
-use Rattle.call_outcomes.proofs.Laws.{mac-length}
+use Rattle.table_image.proofs.Shapes.{mac-length}
 use Rattle.call_enacting.specs.Behind.{ownBehind, behindBy}
 use Rattle.call_enacting.proofs.Laws.{behind-reply}
 use borrow.Author.Needs.{needs}

@@ -7,7 +7,7 @@ use Rattle.paper.specs.Base.{Table, waiting, withNumbers, withCounter}
 use Rattle.paper.specs.Effects.{changed}
 use Rattle.table_image.specs.Layout.{tableOf}
 use Rattle.table_image.proofs.Shapes.{shaped-counter}
-use Rattle.call_outcomes.proofs.Laws.{lent-after, table-after, change-after}
+use Rattle.table_image.proofs.Lending.{lent-after, table-after, change-after}
 use borrow.Author.Needs.{needs}
 use Rattle.call_enacting.proofs.take_indication.Statement.{statement}
 use Rattle.call_enacting.proofs.take_indication.Tie as tie

@@ -4,8 +4,7 @@ use mathlib.Core.Bool.{not}
 use denote.Ref.{now}
 use borrow.Author.Tests.{lt-ltb, le-ltb}
 use Rattle.table_image.specs.Layout.{tableOf}
-use Rattle.table_soundness.proofs.Slots.{sound-lent}
-use Rattle.table_image.proofs.Lending.{lent-length}
+use Rattle.table_image.proofs.Lending.{lent-length, sound-lent}
 use Rattle.call_outcomes.proofs.Laws.{leaves-refused, where-true, where-false}
 use Rattle.call_outcomes.specs.Leaving.{left, leaving}
 use Rattle.paper.specs.StateRows.{stateRows}

@@ -6,9 +6,9 @@ use denote.Ref.{now}
 use Rattle.paper.specs.StateRows.{stateRows}
 use Rattle.paper.specs.Step.{serveBy}
 use Rattle.table_image.specs.Layout.{tableOf}
-use Rattle.table_soundness.proofs.Slots.{sound-lent}
+use Rattle.table_image.proofs.Lending.{sound-lent}
 use Rattle.call_outcomes.specs.Deciding.{Rightly}
-use Rattle.call_engine.proofs.Laws.{granted-few, read-size, any-message, from-line}
+use Rattle.call_engine.proofs.Laws.{image-grants-few, read-size, any-message, from-line}
 use borrow.Author.Needs.{needs}
 use Rattle.call_engine.proofs.decide_coming.Statement.{statement}
 use Rattle.call_engine.proofs.decide_coming.Tie as tie
@@ -23,7 +23,7 @@ occur-requires : tie.Need-occur-requires
 occur-requires c κs =
     let a = c .before .before .before .before in
     let img = now (a .args .img) in
-    (a .pre .0, sound-lent img (a .pre .1), granted-few img (a .pre .1), from-line (a .args .q) (a .pre .3) (c .match .keys2))
+    (a .pre .0, sound-lent img (a .pre .1), image-grants-few img (a .pre .1), from-line (a .args .q) (a .pre .3) (c .match .keys2))
 
 returns : tie.Need-returns
 returns c =

@@ -7,7 +7,7 @@ use borrow.Author.Tests.{lt-ltb, le-ltb, not-false}
 use Rattle.ledger.specs.Choice.{_⇒_∣_}
 use Rattle.paper.specs.Step.{ofOpen, message}
 use Rattle.table_image.specs.Layout.{tableOf}
-use Rattle.table_lookup.proofs.Laws.{open-within}
+use Rattle.table_image.proofs.Shapes.{open-within}
 use borrow.Author.Needs.{needs}
 use Rattle.call_engine.proofs.message_to.Statement.{statement}
 use Rattle.call_engine.proofs.message_to.Tie as tie

@@ -4,8 +4,8 @@ use mathlib.Core.Path.{ap, _∙_}
 use mathlib.Core.List.{List}
 use denote.Ref.{now}
 use Rattle.table_image.specs.Layout.{tableOf}
+use Rattle.table_image.proofs.Lending.{sound-lent}
 use Rattle.paper.proofs.Records.{adds-long}
-use Rattle.table_soundness.proofs.Slots.{sound-lent}
 use Rattle.call_outcomes.specs.Leaving.{leaving}
 use Rattle.paper.specs.Openings.{addsPpa}
 use Rattle.paper.proofs.SoundTests.{shut}

@@ -7,7 +7,7 @@ use borrow.Author.Tests.{not-false}
 use Rattle.ledger.specs.Choice.{_⇒_∣_}
 use Rattle.paper.specs.Step.{ofOpen}
 use Rattle.table_image.specs.Layout.{tableOf}
-use Rattle.table_lookup.proofs.Laws.{open-within}
+use Rattle.table_image.proofs.Shapes.{open-within}
 use borrow.Author.Needs.{needs}
 use Rattle.call_events.proofs.named.Statement.{statement}
 use Rattle.call_events.proofs.named.Tie as tie

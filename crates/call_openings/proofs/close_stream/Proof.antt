@@ -8,7 +8,7 @@ use Rattle.paper.specs.Base.{slot, closed, withSlot}
 use Rattle.paper.specs.Openings.{goodbyes, closes}
 use Rattle.paper.specs.Step.{ofOpen}
 use Rattle.table_image.specs.Layout.{tableOf}
-use Rattle.table_lookup.proofs.Laws.{open-within}
+use Rattle.table_image.proofs.Shapes.{open-within}
 use Rattle.call_outcomes.specs.Leaving.{leaving}
 use Rattle.call_outcomes.proofs.Laws.{leaves-served}
 use Rattle.call_openings.proofs.close_stream.Statement.{statement}

@@ -8,7 +8,7 @@ use Rattle.ledger.specs.Choice.{_⇒_∣_}
 use Rattle.ledger.proofs.Tallies.{either-no}
 use Rattle.paper.specs.Sight.{carrierOf}
 use Rattle.table_image.specs.Layout.{tableOf}
-use Rattle.table_lookup.proofs.Laws.{open-within}
+use Rattle.table_image.proofs.Shapes.{open-within}
 use Rattle.table_lookup.proofs.carrier_of.Statement.{statement}
 use Rattle.table_lookup.proofs.carrier_of.Tie as tie
 

@@ -7,7 +7,7 @@ use borrow.Author.Needs.{needs}
 use denote.Ref.{now}
 use Rattle.octets.specs.Runs.{part}
 use Rattle.table_image.specs.Layout.{slotBase, tidySlot, slotParts}
-use Rattle.table_soundness.proofs.Slots.{slot-part}
+use Rattle.table_soundness.proofs.Slots.{slot-of-parts}
 use Rattle.table_soundness.proofs.are_slots_tidy.Statement.{statement}
 use Rattle.table_soundness.proofs.are_slots_tidy.Tie as tie
 use Rattle.ledger.proofs.Tallies.{test-held, test-failed}
@@ -29,7 +29,7 @@ returns c =
     let i = c .before .before .before .before .loop .i in
     let b : i < 16 = c .before .before .before .loop-test .taken in
     let m : i * 42 + 88 + 42 - (i * 42 + 88) ≡ 42 = omega arith in
-    let e : c .before .is-slot-tidy .result ≡ tidySlot (getD (slotParts img) i []) = c .before .is-slot-tidy .ensures ∙ ap (λ (k : ℕ). tidySlot (part img (slotBase i) k)) m ∙ ap tidySlot (sym (slot-part img i b)) in
+    let e : c .before .is-slot-tidy .result ≡ tidySlot (getD (slotParts img) i []) = c .before .is-slot-tidy .ensures ∙ ap (λ (k : ℕ). tidySlot (part img (slotBase i) k)) m ∙ ap tidySlot (sym (slot-of-parts img i b)) in
     all-fails [] (slotParts img) i b tidySlot (c .before .before .before .before .loop .inv) (test-failed e (c .if1 .taken))
 
 loop-again : tie.Need-loop-again Inv-loop μ-loop
@@ -39,7 +39,7 @@ loop-again c =
     let i = c .before .before .before .before .loop .i in
     let b : i < 16 = c .before .before .before .loop-test .taken in
     let m : i * 42 + 88 + 42 - (i * 42 + 88) ≡ 42 = omega arith in
-    let e : c .before .is-slot-tidy .result ≡ tidySlot (getD (slotParts img) i []) = c .before .is-slot-tidy .ensures ∙ ap (λ (k : ℕ). tidySlot (part img (slotBase i) k)) m ∙ ap tidySlot (sym (slot-part img i b)) in
+    let e : c .before .is-slot-tidy .result ≡ tidySlot (getD (slotParts img) i []) = c .before .is-slot-tidy .ensures ∙ ap (λ (k : ℕ). tidySlot (part img (slotBase i) k)) m ∙ ap tidySlot (sym (slot-of-parts img i b)) in
     all-on [] (slotParts img) i b tidySlot (c .before .before .before .before .loop .inv) (test-held e (c .if1 .left))
 
 returns-2 : tie.Need-returns-2 Inv-loop μ-loop

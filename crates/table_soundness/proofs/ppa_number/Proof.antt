@@ -6,7 +6,7 @@ use lib.ListN.{length}
 use borrow.Author.Needs.{needs}
 use denote.Ref.{now}
 use Rattle.table_image.proofs.Lending.{lent-length}
-use Rattle.table_soundness.proofs.Slots.{number-at}
+use Rattle.table_soundness.proofs.Slots.{ppa-number-at}
 use Rattle.table_soundness.proofs.ppa_number.Statement.{statement}
 use Rattle.table_soundness.proofs.ppa_number.Tie as tie
 
@@ -14,7 +14,7 @@ inside : (c : tie.Start) → c .args .k * 10 + 8 + 4 ≤ length (now (c .args .i
 inside c = omega (arith, c .pre .1 .shaped .few, lent-length (now (c .args .img)) (c .pre .1))
 
 returns : tie.Need-returns
-returns c = c .number32-inside .ensures ∙ number-at (now (c .before .before .args .img)) (c .before .before .args .k) (c .before .before .pre .0)
+returns c = c .number32-inside .ensures ∙ ppa-number-at (now (c .before .before .args .img)) (c .before .before .args .k) (c .before .before .pre .0)
 
 pub ppa-number-spec : {M : Type 1} → statement M
 ppa-number-spec = tie.close (tie.spec (λ c. search needs) (λ c. search needs) (λ c κs. inside (c .before)) returns)
