@@ -1,5 +1,5 @@
--- What a message or an event reads of the table, as one value: what it comes to is decided from that alone. (Refusals 16, 2
--- and 7 stand before it.)
+-- What a message or an event reads of the table, as one value: what it comes to is decided from that alone. (Refusals 16, 10,
+-- 1, 2, 5, 4 and 7 stand before it, and the number that an indication takes comes with the event.)
 use Prim.Native.Nat.{ℕ, suc, _-_}
 use mathlib.Core.Bool.{Bool, false}
 use mathlib.Core.List.{List}
