@@ -38,11 +38,11 @@ byState =
     -- 6, in mode 1 and in mode 2
     ∷ (inEachState (seat 6 1) ++ (leads unbindReq 1 6 3 ∷ leads connectReq 1 6 8 ∷ leads callArrives 1 6 9 ∷ []))
     ∷ (inEachState (seat 6 2) ++ (leads unbindReq 2 6 3 ∷ []))
-    -- 8: a call is asked for
+    -- 8: a connection is asked for
     ∷ (inEachState (seat 8 1) ++ (leads disconnectReq 1 8 6 ∷ leads peerAccepted 1 8 11 ∷ leads peerGone 1 8 6 ∷ []))
     -- 9: indications are open
     ∷ (inEachState (seat 9 1) ++ (loses connectRes 1 9 9 6 ∷ loses disconnectReq 1 9 9 6 ∷ leads callArrives 1 9 9 ∷ loses callWithdrawn 1 9 9 6 ∷ []))
-    -- 11: the call is up
+    -- 11: it is up
     ∷ (inEachState (seat 11 1) ++ (leads disconnectReq 1 11 6 ∷ leads resetReq 1 11 12 ∷ leads peerGone 1 11 6 ∷ leads peerReset 1 11 13 ∷ []))
     -- 12, 13: it is being reset, by the user or by the peer
     ∷ (inEachState (seat 12 1) ++ (leads disconnectReq 1 12 6 ∷ leads peerGone 1 12 6 ∷ leads resetConfirmed 1 12 11 ∷ []))

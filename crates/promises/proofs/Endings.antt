@@ -57,17 +57,17 @@ use Rattle.promises.proofs.Written.{errorsIn}
 -- ---- of a message that is answered without an error
 
 -- the lines that a message of l bytes to stream i says, where it tells no error
-abbrev pub Tells : ℕ → ℕ → List Line → Outcome → Type 0
-Tells i l ys o = errorsIn (o .records) ≡ [] → telling (said (input.Message i l) (o .opened) (o .records)) ≡ ys
+abbrev pub AnswerTells : ℕ → ℕ → List Line → Outcome → Type 0
+AnswerTells i l ys o = errorsIn (o .records) ≡ [] → telling (said (input.Message i l) (o .opened) (o .records)) ≡ ys
 
 module _ (t : Table) (i l : ℕ) (m : List ℕ) where
-  tells-accept : {a : ConnectResponse} {o : Outcome} → Replied stateRows t i m (For (request.ConnectRes a)) o → Tells i l (Went i (a .correlation .0) Accepted ∷ []) o
+  tells-accept : {a : ConnectResponse} {o : Outcome} → Replied stateRows t i m (For (request.ConnectRes a)) o → AnswerTells i l (Went i (a .correlation .0) Accepted ∷ []) o
   unfolding told inOrder ordersIn upsIn effectOf
   tells-accept (failing v) e = absurd (omega (arith, ap length e))
   tells-accept (serving v h (acceptsHere w k)) e = refl
   tells-accept (serving v h (acceptsOn w k)) e = refl
 
-  tells-denial : {d : DisconnectRequest} {o : Outcome} → 0 < d .correlation .0 → Replied stateRows t i m (For (request.Disconnect d)) o → Tells i l (Went i (d .correlation .0) Denied ∷ []) o
+  tells-denial : {d : DisconnectRequest} {o : Outcome} → 0 < d .correlation .0 → Replied stateRows t i m (For (request.Disconnect d)) o → AnswerTells i l (Went i (d .correlation .0) Denied ∷ []) o
   unfolding told inOrder ordersIn upsIn effectOf
   tells-denial some (failing v) e = absurd (omega (arith, ap length e))
   tells-denial {d} some (serving v h (denies n w)) e = rw (ne-eqb (d .correlation .0) 0 (λ z. omega (arith, z)))
@@ -79,25 +79,25 @@ heard-answered x c = complete-answered stateRows (tableIn x) (sound-test (tableI
 
 -- what a complete message says where no error is told
 pub message-says : (x : Harness) (c : Lending) (s : ℕ) (q : Request) (ys : List Line) → (m : CompleteIn x c s q)
-    → Tells s (m .size) ys (outcome (tableIn x) c) → errorsHeard x c ≡ [] → telling (saidBy (nextIn x c)) ≡ ys
+    → AnswerTells s (m .size) ys (outcome (tableIn x) c) → errorsHeard x c ≡ [] → telling (saidBy (nextIn x c)) ≡ ys
 message-says x c s q ys m h e =
     ap telling (lines-heard x c ∙ ap (λ (p : Input). said p (outcome (tableIn x) c .opened) (outcome (tableIn x) c .records)) (m .read))
     ∙ h (sym (errors-heard x c) ∙ e)
 
 -- ---- of an event and of a close that are served
 
-abbrev Says : Input → List Line → Outcome → Type 0
-Says q ys o = o .refusal ≡ 0 → telling (said q (o .opened) (o .records)) ≡ ys
+abbrev CallSays : Input → List Line → Outcome → Type 0
+CallSays q ys o = o .refusal ≡ 0 → telling (said q (o .opened) (o .records)) ≡ ys
 
 module _ (t : Table) (k : Sound t) (r : List ℕ) where
   says-arrives : {p : PpaNumber} {sap : ℕ} {o : Outcome} → Way stateRows t r (input.CallArrives p sap) o
-      → Says (input.CallArrives p sap) (Came (listener t p sap) (nextNumber t) ∷ []) o
+      → CallSays (input.CallArrives p sap) (Came (listener t p sap) (nextNumber t) ∷ []) o
   unfolding told inOrder ordersIn upsIn eventEffect
   says-arrives (refusing some few) z = absurd (omega (arith, some, z))
   says-arrives (bringing (arriving n h) f d) z = refl
 
   says-withdrawn : {i : ℕ} {n : Correlation} {reason : ℕ} {o : Outcome} → Way stateRows t r (input.CallWithdrawn i n reason) o
-      → Says (input.CallWithdrawn i n reason) (Went i (n .0) Withdrawn ∷ []) o
+      → CallSays (input.CallWithdrawn i n reason) (Went i (n .0) Withdrawn ∷ []) o
   unfolding told inOrder ordersIn upsIn eventEffect
   says-withdrawn (refusing some few) z = absurd (omega (arith, some, z))
   says-withdrawn {i} {n} (bringing (walk.withdrawn u) f d) z = rw (open-nonzero t k i (n .0) d)
@@ -107,7 +107,7 @@ module _ (t : Table) (k : Sound t) (r : List ℕ) where
     drops [] h = refl
     drops (n ∷ w) h = rw (h n (rw (eq-eqb n n refl) (omega arith))) (ap (λ (ys : List Line). Went i n Dropped ∷ ys) (drops w (λ m o. h m (omega (arith, o)))))
 
-    says-closes : {o : Outcome} → Way stateRows t r (input.Close i) o → Says (input.Close i) (map (λ (n : ℕ). Went i n Dropped) (waiting t i)) o
+    says-closes : {o : Outcome} → Way stateRows t r (input.Close i) o → CallSays (input.Close i) (map (λ (n : ℕ). Went i n Dropped) (waiting t i)) o
     unfolding goodbyes
     says-closes (refusing some few) z = absurd (omega (arith, some, z))
     says-closes (closing u) z =
@@ -123,7 +123,7 @@ heard-way x c q e =
     subst (λ (p : Input). Way stateRows (tableIn x) (c .bytes) p (outcome (tableIn x) c)) e
     (step-walk stateRows (tableIn x) (c .bytes) (length (c .room)) (sound-test (tableIn x) (agreed x 0 .sound)))
 
-input-says : (x : Harness) (c : Lending) (q : Input) (ys : List Line) → inputOf (c .bytes) ≡ q → Says q ys (outcome (tableIn x) c)
+input-says : (x : Harness) (c : Lending) (q : Input) (ys : List Line) → inputOf (c .bytes) ≡ q → CallSays q ys (outcome (tableIn x) c)
     → nextIn x c .refusal ≡ 0 → telling (saidBy (nextIn x c)) ≡ ys
 input-says x c q ys e h z =
     ap telling (lines-heard x c ∙ ap (λ (p : Input). said p (outcome (tableIn x) c .opened) (outcome (tableIn x) c .records)) e) ∙ h (sym (refusal-heard x c) ∙ z)
@@ -247,10 +247,10 @@ arrival-in-the-book x c p sap e z =
 
 -- ---- and nothing else changes, in fates or counts
 
-abbrev Stays : Harness → Lending → ℕ → Type 0
-Stays x c i = (fates i (heardIn (andThen x c)) ≡ fates i (heardIn x)) × ((k : ℕ) → tallies k i (lines (heardIn (andThen x c))) [] ≡ tallies k i (lines (heardIn x)) [])
+abbrev Untouched : Harness → Lending → ℕ → Type 0
+Untouched x c i = (fates i (heardIn (andThen x c)) ≡ fates i (heardIn x)) × ((k : ℕ) → tallies k i (lines (heardIn (andThen x c))) [] ≡ tallies k i (lines (heardIn x)) [])
 
-untouched : (x : Harness) (c : Lending) (i : ℕ) (ys : List Line) → telling (saidBy (nextIn x c)) ≡ ys → allOf (λ (y : Line). not (concerns i y)) ys ≡ true → Stays x c i
+untouched : (x : Harness) (c : Lending) (i : ℕ) (ys : List Line) → telling (saidBy (nextIn x c)) ≡ ys → allOf (λ (y : Line). not (concerns i y)) ys ≡ true → Untouched x c i
 untouched x c i ys e h = (
   fates-more x c i
       ∙ sym (posts-telling i (saidBy (nextIn x c)) (fates i (heardIn x)))

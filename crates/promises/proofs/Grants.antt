@@ -24,7 +24,7 @@ use Rattle.fates_book.specs.Book.{grantBy}
 use Rattle.fates_book.proofs.Telling.{grant-telling}
 use Rattle.promises.specs.History.{saidBy, grantedBy, opensStream}
 use Rattle.promises.specs.Harness.{Lending, Harness, tableIn, heardIn, nextIn, andThen, CompleteIn, errorsHeard}
-use Rattle.promises.proofs.Endings.{Tells, heard-answered, message-says}
+use Rattle.promises.proofs.Endings.{AnswerTells, heard-answered, message-says}
 use Rattle.promises.proofs.Harness.{agreed, grant-more}
 use Rattle.promises.proofs.Openings.{opening-says}
 
@@ -33,7 +33,7 @@ pub opening-grants-none : (x : Harness) (c : Lending) (s : ℕ) → opensStream 
 opening-grants-none x c s h = grant-more x c s ∙ ap (λ (ys : List Line). grantBy s ys (grantedBy s (heardIn x))) (opening-says x c s h) ∙ rw (eq-eqb s s refl)
 
 tells-bind : (t : Table) (i l : ℕ) (m : List ℕ) {b : BindRequest} {o : Outcome} → Replied stateRows t i m (For (request.Bind b)) o
-    → Tells i l (Given i (grantOf (b .mode) (b .most)) ∷ []) o
+    → AnswerTells i l (Given i (grantOf (b .mode) (b .most)) ∷ []) o
 unfolding told inOrder ordersIn upsIn effectOf
 tells-bind t i l m (failing v) e = absurd (omega (arith, ap length e))
 tells-bind t i l m (serving v h (binds a)) e = refl

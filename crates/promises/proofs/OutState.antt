@@ -82,7 +82,7 @@ module _ (t : Table) (i : ℕ) (m : List ℕ) where
   judged-says (fails f) = rule-says f
 
   -- of all requests, such an accept and those with no row: the sentence, of the order of errors alone
-  pub outState-exactly : (rows : List StateRow) (q : Request) → Asks m q
+  outState-exactly : (rows : List StateRow) (q : Request) → Asks m q
       → has outState (errorsBy (verdictOn rows t i m (For q))) ≡ either (not (hasRow rows (stream t i) q)) (offersBusy t i q)
   outState-exactly rows q a = go (found rows (stream t i) (requestAsks q .cause))
     where
