@@ -1,4 +1,4 @@
--- What a sound table gives the call's parts, and what the call comes to on images that are sound and that are not.
+-- What a sound table gives the call's parts, and what the call comes to on a sound image.
 use Prim.Native.Nat.{ℕ, _≤_}
 use native.Mathlib.Omega.{arith}
 use mathlib.Core.Path.{_≡_, refl, sym, ap, subst, _∙_}

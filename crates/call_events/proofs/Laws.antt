@@ -59,7 +59,7 @@ module _ (t : Table) (i : ℕ) (r : List ℕ) (refusal : ℕ) (e : Event) where
     pub by-row : (x : StateRow) (s : Stream) (w : Effect) → f ≡ At x → s ≡ stream t i → w ≡ eventEffect x s e → doing w ≡ comes stateRows t i r (brings refusal e)
     by-row x s w h es z = ap doing (z ∙ ap (λ (s : Stream). eventEffect x s e) es) ∙ ap by (sym h ∙ d) ∙ by-due-row
 
--- ---- a call that arrives and is due finds a place; no other event takes one
+-- ---- an indication that is due finds a place; no other event takes one
 
 due : (t : Table) (i : ℕ) (e : Event) (x : StateRow) → dueRow t i e ≡ At x → isDue (slot t i) e ≡ true
 unfolding _⇒_∣_

@@ -12,8 +12,6 @@ use Rattle.ledger.specs.Tally.{oneIf}
 use Rattle.ledger.proofs.Tallies.{skip, one-same, one-other, by-same}
 use Rattle.fates_register.specs.Register.{oneMore, raised, counting, closeUp, cleared}
 
--- ---- cases
-
 -- a cell by another name
 pub cell : (l : List ℕ) (m n : ℕ) → m ≡ n → getD l m 0 ≡ getD l n 0
 cell l m n e = ap (λ (k : ℕ). getD l k 0) e

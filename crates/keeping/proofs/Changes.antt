@@ -19,8 +19,6 @@ use Rattle.paper.proofs.StateNumbers.{bound-attached, connection-bound}
 use Rattle.paper.proofs.Saps.{allows}
 use Rattle.keeping.specs.Soundness.{Ok}
 
--- ---- the lists of states
-
 -- a number of which a test fails that 9 passes is not 9
 pub not-nine : (p : ℕ → Bool) (n : ℕ) → p 9 ≡ true → p n ≡ false → eqb n 9 ≡ false
 not-nine p n h g = go (eqb n 9) refl

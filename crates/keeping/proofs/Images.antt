@@ -37,8 +37,7 @@ use Rattle.keeping.proofs.NextNumber.{counter-small}
 use Rattle.keeping.proofs.Kept.{keeps, fresh-sound}
 use Rattle.keeping.proofs.Tested.{sound-test, sound-tested}
 
--- ---- runs of zeros
-
+-- what stands in the second of two lists
 drop-past : (a b : List ℕ) (n m : ℕ) → length a ≡ m → drop (n + m) (a ++ b) ≡ drop n b
 drop-past [] b n zero e = let z : n + 0 ≡ n = omega arith in ap (λ (k : ℕ). drop k b) z
 drop-past [] b n (suc m) e = absurd (omega arith)

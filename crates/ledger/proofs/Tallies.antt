@@ -70,7 +70,7 @@ test-failed {r} e h = sym e ∙ not-true r h
 pub differs : (k n : ℕ) → (n ≡ k → ⊥) → eqb k n ≡ false
 differs k n h = ne-eqb k n (λ e. h (sym e))
 
--- a test that holds leads to its answer, one that fails to what follows
+-- a test that holds leads to its answer
 pub hold : {A : Type 0} (b : Bool) (x y : A) → b ≡ true → (b ⇒ x ∣ y) ≡ x
 unfolding _⇒_∣_
 hold b x y e = rw e

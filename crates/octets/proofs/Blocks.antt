@@ -1,12 +1,12 @@
 -- Blocks: what they hold, and what is written behind it.
 use Prim.Native.Nat.{ℕ, _*_, _+_, _-_, _≤_, _<_}
 use native.Mathlib.Omega.{arith}
-use mathlib.Core.Path.{_≡_, refl}
-use mathlib.Core.List.{List, [], _∷_, _++_, append-assoc}
+use mathlib.Core.Path.{_≡_, refl, ap, _∙_}
+use mathlib.Core.List.{List, [], _∷_, _++_, append-assoc, append-nil}
 use lib.ListN.{length, length-append, replicate, length-replicate, replicate-append-replicate, getD, take}
 use native.Mathlib.Numerals.{add-one}
 use lib.Seq.{take-suc, length-take-le}
-use Rattle.octets.specs.Blocks.{flat, pad}
+use Rattle.octets.specs.Blocks.{flat, pad, padTo}
 use Rattle.octets.specs.Numbers.{be32}
 use Rattle.octets.specs.Runs.{paste}
 use Rattle.octets.proofs.Runs.{paste-middle}
@@ -21,16 +21,24 @@ flat-length (x ∷ l) = omega (arith, flat-length l)
 pub content-length : (fields tail : List ℕ) → length (flat fields ++ tail) ≡ length fields * 4 + length tail
 content-length fields tail = omega (arith, length-append (flat fields) tail, flat-length fields)
 
--- a block has 96 bytes
-pub block-length : (l : List ℕ) → length l ≤ 96 → length (pad l) ≡ 96
-block-length l h = omega (arith, length-append l (replicate (96 - length l) 0), length-replicate {A = ℕ} (96 - length l) 0)
+-- with zeros behind, up to n: the length
+pub pad-length : (n : ℕ) (l : List ℕ) → length l ≤ n → length (padTo n l) ≡ n
+pad-length n l h = simp (length-append, length-replicate) (omega arith)
 
--- bytes behind those that a block holds
+-- more bytes over the first of them
+pub pad-more : (h l s q : List ℕ) (n b : ℕ) → length h + length l ≡ b → length l + length s ≤ n
+    → paste (h ++ (padTo n l ++ q)) b s ≡ h ++ (padTo n (l ++ s) ++ q)
+pad-more h l s q n b e f =
+    let r : List ℕ = replicate (n - length (l ++ s)) 0 in
+    let m : n - length l ≡ length s + (n - length (l ++ s)) = omega (arith, length-append l s) in
+    let o : h ++ (padTo n l ++ q) ≡ (h ++ l) ++ replicate (length s) 0 ++ (r ++ q) = rw (m, ← replicate-append-replicate) (simp append-assoc) in
+    ap (λ (i : List ℕ). paste i b s) o
+    ∙ paste-middle (h ++ l) (replicate (length s) 0) s (r ++ q) b (omega (arith, length-append h l)) (length-replicate (length s) 0)
+    ∙ simp append-assoc
+
+-- a block: bytes behind those that it holds
 pub pad-at : (l s : List ℕ) (n : ℕ) → length l ≡ n → n + length s ≤ 96 → paste (pad l) n s ≡ pad (l ++ s)
-pad-at l s n e h =
-    let m : 96 - length l ≡ length s + (96 - length (l ++ s)) = omega (arith, length-append l s) in
-    let room : pad l ≡ l ++ replicate (length s) 0 ++ replicate (96 - length (l ++ s)) 0 = rw (append-assoc, replicate-append-replicate, m) in
-    rw room (paste-middle l (replicate (length s) 0) s (replicate (96 - length (l ++ s)) 0) n e (length-replicate (length s) 0))
+pad-at l s n e h = simp append-nil at (pad-more [] l s [] 96 n (omega (arith, e)) (omega arith))
 
 -- a block with one field more
 pub flat-more : (w : List ℕ) (i : ℕ) → i < length w → i < 24

@@ -5,7 +5,7 @@ use native.Mathlib.Nat.{zero-mul, suc-mul}
 use mathlib.Core.Path.{_≡_, sym, ap, _∙_}
 use mathlib.Core.Bool.{true}
 use mathlib.Core.List.{List, [], _∷_, _++_, append-assoc}
-use lib.ListN.{length, getD, take, drop, set, replicate, length-append, length-replicate, replicate-append-replicate}
+use lib.ListN.{length, getD, take, drop, set, replicate, length-append}
 use lib.Seq.{take-at, drop-at, take-length, split-at, set-split}
 use Rattle.octets.specs.Runs.{part, paste, allZero}
 use Rattle.octets.proofs.Runs.{zero-replicate, part-length, part-add, paste-middle}
@@ -56,23 +56,6 @@ module _ {A : Type 0} (f : A → List ℕ) where
           let s : h ++ joined f l ≡ ahead ++ a ++ q = rw (around, o) (simp append-assoc) in
           let v : h ++ joined f (set l k x) ≡ ahead ++ c ++ q = rw (set-split l k x n, joined-append f, y) (simp append-assoc) in
           ap (λ (r : List ℕ). paste r (k * w + b) c) s ∙ paste-middle ahead a c q (k * w + b) ahead-length m ∙ sym v
-
--- ---- zeros behind
-
--- the length with them
-pub pad-length : (n : ℕ) (l : List ℕ) → length l ≤ n → length (padTo n l) ≡ n
-pad-length n l h = simp (length-append, length-replicate) (omega arith)
-
--- more bytes over the first of them
-pub pad-more : (h l s q : List ℕ) (n b : ℕ) → length h + length l ≡ b → length l + length s ≤ n
-    → paste (h ++ (padTo n l ++ q)) b s ≡ h ++ (padTo n (l ++ s) ++ q)
-pad-more h l s q n b e f =
-    let r : List ℕ = replicate (n - length (l ++ s)) 0 in
-    let m : n - length l ≡ length s + (n - length (l ++ s)) = omega (arith, length-append l s) in
-    let o : h ++ (padTo n l ++ q) ≡ (h ++ l) ++ replicate (length s) 0 ++ (r ++ q) = rw (m, ← replicate-append-replicate) (simp append-assoc) in
-    ap (λ (i : List ℕ). paste i b s) o
-    ∙ paste-middle (h ++ l) (replicate (length s) 0) s (r ++ q) b (omega (arith, length-append h l)) (length-replicate (length s) 0)
-    ∙ simp append-assoc
 
 -- ---- bytes as pieces
 

@@ -1,4 +1,4 @@
--- The bytes of records one behind the other: of one, of two runs of them, of a call's in order.
+-- The bytes of records one behind the other: of one, of a call's in order, of goodbyes. They are joined as any pieces are.
 use mathlib.Core.Path.{_≡_, sym, ap, _∙_, refl}
 use mathlib.Core.List.{[], _∷_, append-nil, List, _++_, map}
 use Prim.Native.Nat.{ℕ, _*_}
@@ -9,7 +9,6 @@ use Rattle.paper.specs.Openings.{goodbye}
 use Rattle.octets.specs.Runs.{over}
 use Rattle.ledger.proofs.Lists.{joined-append}
 
--- the bytes of one record, of two runs of records, of a call's records in order
 pub one-record : (r : Record) → allBytes (r ∷ []) ≡ bytesOf r
 one-record r = append-nil (bytesOf r)
 

@@ -6,7 +6,7 @@ use mathlib.Core.Path.{_≡_, refl}
 use mathlib.Core.List.{List}
 use lib.ListN.{length}
 use Rattle.ledger.proofs.Tallies.{picked, chosen}
-use Rattle.octets.proofs.Blocks.{content-length, block-length}
+use Rattle.octets.proofs.Blocks.{content-length, pad-length}
 use Rattle.paper.specs.Base.{isAmong, toldStates}
 use Rattle.paper.specs.RecordsOut.{sizeOut, up, bytesOf}
 use Rattle.paper.specs.Replies.{infoOf, fieldsOf, contentOf, replySize, addressBytes}
@@ -63,7 +63,7 @@ size-within k =
 -- a message up whose fields and addresses fit the block takes 99 bytes
 pub up-size : (i : ℕ) (r : Reply) (tail : List ℕ) → length (fieldsOf r) * 4 + length tail ≤ 96 → length (bytesOf (up i r tail)) ≡ 99
 unfolding contentOf
-up-size i r tail h = omega (arith, block-length (contentOf r tail) (omega (arith, content-length (fieldsOf r) tail)))
+up-size i r tail h = omega (arith, pad-length 96 (contentOf r tail) (omega (arith, content-length (fieldsOf r) tail)))
 
 -- so does any with at most 14 bytes behind its fields
 pub up-length : (s : ℕ) (r : Reply) (tail : List ℕ) → length tail ≤ 14 → length (bytesOf (up s r tail)) ≡ 99

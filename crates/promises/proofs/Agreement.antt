@@ -1,5 +1,5 @@
 -- What a history says of a stream is what the table holds of it: of a fresh table nothing, and then, call by call, the lines show what
--- the call changes (`Seen`).
+-- the call changes (`Traced`).
 use Prim.Native.Nat.{ℕ, _<_}
 use mathlib.Core.Path.{_≡_, refl, sym, ap, subst, _∙_}
 use mathlib.Core.Bool.{true, false≢true}

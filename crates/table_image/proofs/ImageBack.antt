@@ -28,8 +28,6 @@ use Rattle.table_image.proofs.TidyImage.{TidySlot, Tidy, tidy-parts}
 front : (c : List ℕ) (n : ℕ) → n ≤ length c → listed (λ k. getD c k 0) 0 n ≡ take n c
 front c n h = listed-back (λ k. getD c k 0) (take n c) n 0 (length-take-le n c h) (λ k b. sym (getD-take n c k 0 b))
 
--- ---- bytes out of their numbers again
-
 -- the number of the state that a byte tells
 number-back : (n : ℕ) → isState n ≡ true → numberOf (stateOf n) ≡ n
 unfolding isState

@@ -7,14 +7,14 @@ use lib.ListN.{length, getD, length-append, length-set}
 use lib.Dec.{eqb}
 use mathlib.Core.Bool.{true}
 use Rattle.octets.specs.Blocks.{flat}
-use Rattle.octets.proofs.Blocks.{flat-length}
+use Rattle.octets.proofs.Blocks.{flat-length, pad-length}
 use Rattle.paper.specs.Base.{Slot, Table, slot, waiting, closed, justOpened, noPpa, withSlot, withStream, withNumbers, withCounter, withPpa, remembering, macOf}
 use Rattle.paper.specs.declared.Stream.{Stream}
 use Rattle.paper.specs.declared.Ppa.{Ppa}
 use Rattle.paper.specs.declared.PpaNumber.{PpaNumber}
 use Rattle.table_image.specs.Layout.{ppaBytes, streamBytes, waitingBytes, slotBytes, headerBytes, imageOf}
 use Rattle.table_image.specs.Shape.{Shaped}
-use Rattle.octets.proofs.Pieces.{joined-length, pad-length}
+use Rattle.octets.proofs.Pieces.{joined-length}
 use Rattle.ledger.proofs.Lists.{each-set, each-more}
 use Rattle.ledger.specs.Lists.{joined}
 use Rattle.ledger.specs.Tally.{firstOf}

@@ -17,7 +17,8 @@ use Rattle.paper.specs.declared.Ppa.{Ppa}
 use Rattle.table_image.specs.Layout.{ppaBase, slotBase, maskOf, ppaBytes, streamBytes, waitingBytes, slotBytes, headerBytes, imageOf}
 use Rattle.table_image.specs.Shape.{Shaped}
 use Rattle.table_image.proofs.Bits.{mask-kept, mask-opened, mask-closed}
-use Rattle.octets.proofs.Pieces.{joined-paste, pad-more}
+use Rattle.octets.proofs.Pieces.{joined-paste}
+use Rattle.octets.proofs.Blocks.{pad-more}
 use Rattle.table_image.proofs.Shapes.{stream-length, slot-length, slots-wide, ppas-length, header-length}
 
 -- the first eight bytes: a mask, a memory of openings, a count of PPAs, a counter

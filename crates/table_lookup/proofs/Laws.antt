@@ -1,4 +1,4 @@
--- Who listens, the PPAs in an image, the open streams of a table.
+-- Who listens, and the PPAs in an image.
 use Prim.Native.Nat.{ℕ, _+_, _<_}
 use native.Mathlib.Omega.{arith}
 use mathlib.Core.Path.{_≡_, refl, ap, _∙_}
@@ -28,8 +28,6 @@ sap-first p sap s = go (ltb 0 (s .granted)) (eqb (s .ppa .0) (p .0)) (eqb (s .sa
     go true false false = refl
     go false b true = refl
     go false b false = refl
-
--- ---- images and tables
 
 -- a PPA of the table that an image holds
 pub ppa-place : (img : List ℕ) (k : ℕ) → k < length (tableOf img .ppas) → getD (tableOf img .ppas) k noPpa ≡ ppaAt img k

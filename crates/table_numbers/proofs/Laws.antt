@@ -1,4 +1,4 @@
--- The open numbers of a stream: where they lie in an image, one more and one less of them, one taken out.
+-- The open numbers of a stream: where they lie in an image, one more and one less of them.
 use Prim.Native.Nat.{ℕ, suc, _+_, _*_, _≤_, _<_, _-_}
 use native.Mathlib.Omega.{arith}
 use native.Mathlib.Numerals.{add-one}
@@ -11,12 +11,11 @@ use Rattle.octets.specs.Runs.{part, paste}
 use Rattle.octets.specs.Blocks.{flat, padTo}
 use Rattle.octets.proofs.Runs.{part-length, part-add, paste-join}
 use Rattle.octets.proofs.Numbers.{part-be32}
-use Rattle.octets.proofs.Blocks.{flat-length}
+use Rattle.octets.proofs.Blocks.{flat-length, pad-length, pad-more}
 use Rattle.paper.specs.Base.{Slot, Table, slot, stream, waiting, withNumbers}
 use Rattle.paper.specs.declared.Stream.{Stream}
 use Rattle.table_image.specs.Layout.{slotBase, waitingFrom, slotAt, tableOf, streamBytes, waitingBytes, slotBytes, imageOf}
 use Rattle.table_image.specs.Lent.{Lent}
-use Rattle.octets.proofs.Pieces.{pad-length, pad-more}
 use Rattle.table_image.proofs.Shapes.{stream-length}
 use Rattle.table_image.proofs.Stored.{store-numbers}
 use Rattle.table_image.proofs.TableBack.{slot-at, slot-part}

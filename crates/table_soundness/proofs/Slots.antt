@@ -1,4 +1,4 @@
--- What the bytes of an image tell of its table: states, PPA numbers, open and closed streams.
+-- What the bytes of an image tell of its table: PPA numbers, open and closed streams; and the clauses of a sound table in groups.
 use Prim.Native.Nat.{ℕ, zero, suc, _+_, _*_, _≤_, _<_}
 use mathlib.Core.Path.{_≡_, refl, sym, ap, _∙_}
 use mathlib.Core.Bool.{Bool, true, not}

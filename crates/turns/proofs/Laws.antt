@@ -1,4 +1,4 @@
--- Laws of turns.
+-- Where the calls are not over there is a next number: that there is none is one of the two tests of it.
 use Prim.Native.Nat.{_-_}
 use mathlib.Core.Path.{_≡_}
 use mathlib.Core.Bool.{false}
@@ -8,6 +8,5 @@ use Rattle.ledger.proofs.Tallies.{either-no}
 use Rattle.turns.specs.Turns.{isOver}
 use Rattle.turns.specs.declared.Turn.{Turn}
 
--- where the calls are not over there is a next number
 pub not-over : (t : Turn) → isOver t ≡ false → t .calls ≡ 18446744073709551615 → ⊥
 not-over t e = eqb-false (t .calls) 18446744073709551615 (either-no (eqb (t .end - t .start) 0) (eqb (t .calls) 18446744073709551615) e .1)
