@@ -65,7 +65,7 @@ module _ (t : Table) (i : ℕ) (m : List ℕ) (code : ℕ) where
     pub by-row : (x : StateRow) (r : Judgement) (e : Effect) → f ≡ At x → RightlyJudged t i q r → e ≡ effectBy (At x) (record { 0 = i + 1 }) code s (r .verdict)
         → doing (r .carrier) e ≡ comes stateRows t i m (sends code (For q))
     unfolding conclude decideBy
-    by-row x r e h j z = rw (z, j x .0, j x .1, es, add-one) (by-found (At x) h)
+    by-row x r e h j z = rw (z, j x .verdict, j x .carrier, es, add-one) (by-found (At x) h)
 
 -- ---- no message takes an open indication
 

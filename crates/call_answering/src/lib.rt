@@ -1,9 +1,7 @@
 // A message: its state row, what the order of errors reads of the table, and what that comes to.
 ghost use mathlib.Core.Path.{_≡_};
 ghost use mathlib.Core.List.{List};
-ghost use Prim.Native.Nat.{ℕ, _<_, _≤_};
-ghost use lib.ListN.{length};
-ghost use Rattle.paper.specs.Base.{stream};
+ghost use Prim.Native.Nat.{ℕ};
 ghost use Rattle.paper.specs.Messages.{codeIn, askedBy};
 ghost use Rattle.paper.specs.StateRows.{stateRows};
 ghost use Rattle.paper.specs.Sight.{sends, carrierAt};
@@ -11,9 +9,9 @@ ghost use Rattle.paper.specs.Step.{comes};
 ghost use Rattle.paper.specs.declared.Asked.the-variants as asked;
 ghost use Rattle.paper.specs.declared.Request.the-variants as request;
 ghost use Rattle.table_image.specs.Layout.{tableOf};
-ghost use Rattle.table_image.specs.Lent.{Lent};
 ghost use Rattle.call_outcomes.specs.Deciding.{Rightly};
-ghost use Rattle.call_answering.specs.Judging.{RightlyJudged};
+ghost use Rattle.call_answering.specs.Judging.{RightlyJudged, Sent};
+ghost use Rattle.table_image.specs.Lent.{LentAt, Loaded};
 use call_outcomes::Decided;
 use paper::Asked;
 use paper::Carrier;
@@ -58,7 +56,7 @@ fn carrier_at(i: u8, carrier: Carrier) -> u8
 
 // 6. CONNECT_RES: its number among the open ones, how many these are, and the stream that its token names.
 fn judged_accept(img: &[u8], i: u8, s: Stream, a: ConnectResponse) -> Judgement
-    requires { ⌜ (i < 16) × (length (now img) ≡ 760) × Lent (now img) × (s ≡ stream (tableOf (now img)) i) ⌝ }
+    requires { ⌜ Loaded s i (now img) ⌝ }
     ensures { λ r. ⌜ RightlyJudged (tableOf (now (img .entry))) i (request.ConnectRes a) r ⌝ }
 {
     let at = i as usize;
@@ -77,7 +75,7 @@ fn judged_accept(img: &[u8], i: u8, s: Stream, a: ConnectResponse) -> Judgement
 
 // 7. DISCONNECT_REQ: its number among the open ones.
 fn judged_disconnect(img: &[u8], i: u8, s: Stream, d: DisconnectRequest) -> Judgement
-    requires { ⌜ (i < 16) × (length (now img) ≡ 760) × Lent (now img) × (s ≡ stream (tableOf (now img)) i) ⌝ }
+    requires { ⌜ Loaded s i (now img) ⌝ }
     ensures { λ r. ⌜ RightlyJudged (tableOf (now (img .entry))) i (request.Disconnect d) r ⌝ }
 {
     let n = d.correlation;
@@ -87,7 +85,7 @@ fn judged_disconnect(img: &[u8], i: u8, s: Stream, d: DisconnectRequest) -> Judg
 
 // Steps 3 to 7, by the request.
 fn judged_request(img: &[u8], i: u8, s: Stream, q: Request) -> Judgement
-    requires { ⌜ (i < 16) × (length (now img) ≡ 760) × Lent (now img) × (s ≡ stream (tableOf (now img)) i) ⌝ }
+    requires { ⌜ Loaded s i (now img) ⌝ }
     ensures { λ r. ⌜ RightlyJudged (tableOf (now (img .entry))) i q r ⌝ }
 {
     match q {
@@ -117,7 +115,7 @@ fn judged_request(img: &[u8], i: u8, s: Stream, q: Request) -> Judgement
 // Step 2 of the order of errors, then the others; a request that they let pass is served by its state row. (Which message it
 // is read from is not asked.)
 fn answer_request(img: &[u8], i: u8, code: u32, q: Request) -> Decided
-    requires { ⌜ (i < 16) × (length (now img) ≡ 760) × Lent (now img) ⌝ }
+    requires { ⌜ LentAt i (now img) ⌝ }
     ensures { λ r. ⌜ ((m : List ℕ) → Rightly (tableOf (now (img .entry))) m r (comes stateRows (tableOf (now (img .entry))) i m (sends code (asked.For q)))) ⌝ }
 {
     let s = table_image::load_stream(img, i as usize);
@@ -136,8 +134,9 @@ fn answer_request(img: &[u8], i: u8, code: u32, q: Request) -> Decided
 
 // Step 1 of the order of errors, then the others.
 pub fn answer_message(img: &[u8], i: u8, m: &[u8]) -> Decided
-    requires { ⌜ (i < 16) × (length (now img) ≡ 760) × Lent (now img) × (4 ≤ length (now m)) × (length (now m) ≤ 96) ⌝ }
-    ensures { λ r. ⌜ Rightly (tableOf (now (img .entry))) (now (m .entry)) r (comes stateRows (tableOf (now (img .entry))) i (now (m .entry)) (sends (codeIn (now (m .entry))) (askedBy (now (m .entry))))) ⌝ }
+    requires { ⌜ Sent i (now img) (now m) ⌝ }
+    ensures { λ r. ⌜ Rightly (tableOf (now (img .entry))) (now (m .entry)) r
+        (comes stateRows (tableOf (now (img .entry))) i (now (m .entry)) (sends (codeIn (now (m .entry))) (askedBy (now (m .entry))))) ⌝ }
 {
     let code = wire_messages::code_in(m);
     let asked = wire_messages::asked_by(m);

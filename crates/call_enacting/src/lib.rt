@@ -1,80 +1,32 @@
 // What was decided, concluded: an effect's records are written to the lent room, then the lent table is changed.
 ghost use mathlib.Core.Path.{_≡_};
-ghost use mathlib.Core.Bool.{true};
 ghost use mathlib.Core.List.{[], _∷_};
-ghost use Prim.Native.Nat.{_<_, _≤_};
+ghost use Prim.Native.Nat.{_≤_};
 ghost use lib.ListN.{length};
-ghost use Rattle.octets.specs.Runs.{over};
-ghost use Rattle.paper.specs.Base.{Slot, slot, waiting, macAt};
-ghost use Rattle.paper.specs.RecordsOut.{order, up, bytesOf};
-ghost use Rattle.paper.specs.Effects.{changed, carried, namedBy, behindOrder, ordersIn, behindReply, upsIn, told};
-ghost use Rattle.table_image.specs.Layout.{tableOf, imageOf};
-ghost use Rattle.table_image.specs.Lent.{Lent};
+ghost use Rattle.paper.specs.Base.{slot, macAt};
+ghost use Rattle.paper.specs.RecordsOut.{order, up, bytesOf, disconnectSize, allBytes};
+ghost use Rattle.paper.specs.Effects.{namedBy, behindOrder, ordersIn, behindReply, upsIn, told};
+ghost use Rattle.table_image.specs.Layout.{tableOf};
+ghost use Rattle.table_image.specs.Lent.{LentAt};
 ghost use Rattle.call_outcomes.specs.Leaving.{left, leaving};
-ghost use Rattle.call_outcomes.specs.Deciding.{outcomeOf, Enactable};
+ghost use Rattle.call_outcomes.specs.Deciding.{outcomeOf};
 ghost use Rattle.call_outcomes.specs.declared.Decided.the-variants as decided;
-ghost use Rattle.call_outcomes.specs.Takes.{takes};
 ghost use Rattle.call_enacting.specs.Behind.{ownBehind, behindBy};
-ghost use Rattle.call_enacting.specs.Written.{Written};
+ghost use Rattle.paper.specs.RecordsIn.{messageSize};
+ghost use Rattle.paper.specs.Step.{roomSize};
+ghost use Rattle.octets.specs.Writing.{WroteMost};
+ghost use Rattle.paper.specs.Replies.{mostTail};
+ghost use Rattle.call_outcomes.specs.Rooms.{LentRoom};
+ghost use Rattle.call_enacting.specs.Concluding.{Concludes, mostWritten, WroteBeside};
 use call_outcomes::Decided;
-use paper::Change;
-use paper::Correlation;
+use paper::ADDRESS_SIZE;
 use paper::Effect;
 use paper::LineOrder;
+use paper::MAC_SIZE;
+use paper::MOST_TAIL;
 use paper::Reply;
 use paper::Saying;
-use paper::State;
-use paper::Stream;
 use paper::Telling;
-
-// ---- the table
-
-// A stream takes one more open indication, and the counter stands one past its number.
-fn take_indication(img: &mut [u8], i: u8, s: Stream, n: Correlation)
-    requires { ⌜ (i < 16) × (length (now img) ≡ 760) × Lent (now img) × (length (waiting (tableOf (now img)) i) < 8) ⌝ }
-    ensures { λ _. ⌜ now (img .exit) ≡ imageOf (changed (tableOf (now (img .entry))) i (Change.Takes s n)) ⌝ }
-{
-    table_image::store_counter(img, std::num::wrapping_add_u32(n.0, 1));
-    table_numbers::add_number(img, i as usize, s, n);
-}
-
-// A stream loses an open indication, and goes to another state where it was the last.
-fn lose_indication(img: &mut [u8], i: u8, s: Stream, n: Correlation, last: State)
-    requires { ⌜ (i < 16) × (length (now img) ≡ 760) × Lent (now img) ⌝ }
-    ensures { λ _. ⌜ now (img .exit) ≡ imageOf (changed (tableOf (now (img .entry))) i (Change.Loses s n last)) ⌝ }
-{
-    let at = i as usize;
-    if table_numbers::remaining(img, at, n) == 0 {
-        table_numbers::remove_number(img, at, paper_rules::settled(last, s), n);
-        return;
-    }
-    table_numbers::remove_number(img, at, s, n);
-}
-
-// What becomes of a stream.
-fn change_stream(img: &mut [u8], i: u8, change: Change)
-    requires { ⌜ (i < 16) × (length (now img) ≡ 760) × Lent (now img) × (takes change ≡ true → length (waiting (tableOf (now img)) i) < 8) ⌝ }
-    ensures { λ _. ⌜ now (img .exit) ≡ imageOf (changed (tableOf (now (img .entry))) i change) ⌝ }
-{
-    match change {
-        Change::Stays => {}
-        Change::Becomes(s) => table_image::store_stream(img, i as usize, s),
-        Change::Takes(s, n) => take_indication(img, i, s, n),
-        Change::Loses(s, n, last) => lose_indication(img, i, s, n, last),
-    }
-}
-
-// The carrying stream goes to 11. Past the table's end there is none.
-fn carry(img: &mut [u8], c: u8, carries: bool)
-    requires { ⌜ (length (now img) ≡ 760) × Lent (now img) ⌝ }
-    ensures { λ _. ⌜ now (img .exit) ≡ imageOf (carried (tableOf (now (img .entry))) c carries) ⌝ }
-{
-    if carries && c < 16 {
-        let at = c as usize;
-        let s = table_image::load_stream(img, at);
-        table_image::store_stream(img, at, paper_rules::settled(State::DataXfer, s));
-    }
-}
 
 // ---- the records
 
@@ -94,8 +46,8 @@ fn named_by(i: u8, c: u8, o: LineOrder) -> u8
 // An order to the line. The address of a connect is handed on as that part of the message. (No order reads the stream's
 // own slot.)
 fn put_named_order(room: &mut [u8], i: u8, c: u8, m: &[u8], o: LineOrder) -> usize
-    requires { ⌜ 10 ≤ length (now room) ⌝ }
-    ensures { λ n. ⌜ (n ≤ 10) × ((own : Slot) → Written (order (namedBy i c o) o (behindOrder own (now (m .entry)) o) ∷ []) n (now (room .entry)) (now (room .exit))) ⌝ }
+    requires { ⌜ disconnectSize ≤ length (now room) ⌝ }
+    ensures { λ n. ⌜ WroteBeside disconnectSize (λ own. allBytes (order (namedBy i c o) o (behindOrder own (now (m .entry)) o) ∷ [])) n (now (room .entry)) (now (room .exit)) ⌝ }
 {
     let s = named_by(i, c, o);
     match o {
@@ -111,8 +63,8 @@ fn put_named_order(room: &mut [u8], i: u8, c: u8, m: &[u8], o: LineOrder) -> usi
 
 // What the line is told.
 fn put_orders(room: &mut [u8], i: u8, c: u8, m: &[u8], telling: Telling) -> usize
-    requires { ⌜ 10 ≤ length (now room) ⌝ }
-    ensures { λ n. ⌜ (n ≤ 10) × ((own : Slot) → Written (ordersIn i c own (now (m .entry)) telling) n (now (room .entry)) (now (room .exit))) ⌝ }
+    requires { ⌜ disconnectSize ≤ length (now room) ⌝ }
+    ensures { λ n. ⌜ WroteBeside disconnectSize (λ own. allBytes (ordersIn i c own (now (m .entry)) telling)) n (now (room .entry)) (now (room .exit)) ⌝ }
 {
     match telling {
         Telling::Untold => 0,
@@ -121,8 +73,8 @@ fn put_orders(room: &mut [u8], i: u8, c: u8, m: &[u8], telling: Telling) -> usiz
 }
 
 // The MAC of the PPA that a stream is attached to.
-fn mac_at(img: &[u8], i: u8) -> [u8; 6]
-    requires { ⌜ (i < 16) × (length (now img) ≡ 760) × Lent (now img) ⌝ }
+fn mac_at(img: &[u8], i: u8) -> [u8; MAC_SIZE]
+    requires { ⌜ LentAt i (now img) ⌝ }
     ensures { λ r. ⌜ r ≡ macAt (tableOf (now (img .entry))) i ⌝ }
 {
     let p = table_image::attached_at(img, i as usize);
@@ -131,8 +83,8 @@ fn mac_at(img: &[u8], i: u8) -> [u8; 6]
 
 // The stream's own address, where the message up ends in it: behind the fields of INFO_ACK and BIND_ACK.
 fn put_own_address(img: &[u8], own: &mut [u8], i: u8, reply: Reply) -> usize
-    requires { ⌜ (i < 16) × (length (now img) ≡ 760) × Lent (now img) × (14 ≤ length (now own)) ⌝ }
-    ensures { λ n. ⌜ (n ≡ length (ownBehind (macAt (tableOf (now (img .entry))) i) reply)) × (n ≤ 14) × (now (own .exit) ≡ over (ownBehind (macAt (tableOf (now (img .entry))) i) reply) (now (own .entry))) ⌝ }
+    requires { ⌜ LentRoom mostTail i (now img) (now own) ⌝ }
+    ensures { λ n. ⌜ WroteMost mostTail (ownBehind (macAt (tableOf (now (img .entry))) i) reply) 0 n (now (own .entry)) (now (own .exit)) ⌝ }
 {
     match reply {
         Reply::InfoAck(s) => {
@@ -153,18 +105,18 @@ fn behind<'a>(own: &'a [u8], m: &'a [u8], reply: Reply) -> &'a [u8]
     ensures { λ r. ⌜ now r ≡ behindBy (now (own .entry)) (now (m .entry)) reply ⌝ }
 {
     match reply {
-        Reply::ConnectInd(_) => octets::part_at(m, 5, 14),
-        Reply::ConnectCon => octets::part_at(m, 2, 7),
+        Reply::ConnectInd(_) => octets::part_at(m, 5, MOST_TAIL),
+        Reply::ConnectCon => octets::part_at(m, 2, ADDRESS_SIZE),
         _ => own,
     }
 }
 
 // A message up.
 fn put_reply(img: &[u8], room: &mut [u8], i: u8, m: &[u8], reply: Reply) -> usize
-    requires { ⌜ (i < 16) × (length (now img) ≡ 760) × Lent (now img) × (99 ≤ length (now room)) ⌝ }
-    ensures { λ n. ⌜ (n ≡ 99) × (now (room .exit) ≡ over (bytesOf (up i reply (behindReply (macAt (tableOf (now (img .entry))) i) (now (m .entry)) reply))) (now (room .entry))) ⌝ }
+    requires { ⌜ LentRoom messageSize i (now img) (now room) ⌝ }
+    ensures { λ n. ⌜ WroteMost messageSize (bytesOf (up i reply (behindReply (macAt (tableOf (now (img .entry))) i) (now (m .entry)) reply))) 0 n (now (room .entry)) (now (room .exit)) ⌝ }
 {
-    let mut own = [0u8; 14];
+    let mut own = [0u8; MOST_TAIL];
     let size = put_own_address(img, &mut own, i, reply);
     let tail = behind(&own[0..size], m, reply);
     wire_replies::put_up(room, i, reply, tail)
@@ -172,8 +124,8 @@ fn put_reply(img: &[u8], room: &mut [u8], i: u8, m: &[u8], reply: Reply) -> usiz
 
 // What the stream's user is told.
 fn put_replies(img: &[u8], room: &mut [u8], i: u8, m: &[u8], saying: Saying) -> usize
-    requires { ⌜ (i < 16) × (length (now img) ≡ 760) × Lent (now img) × (99 ≤ length (now room)) ⌝ }
-    ensures { λ n. ⌜ (n ≤ 99) × Written (upsIn i (macAt (tableOf (now (img .entry))) i) (now (m .entry)) saying) n (now (room .entry)) (now (room .exit)) ⌝ }
+    requires { ⌜ LentRoom messageSize i (now img) (now room) ⌝ }
+    ensures { λ n. ⌜ WroteMost messageSize (allBytes (upsIn i (macAt (tableOf (now (img .entry))) i) (now (m .entry)) saying)) 0 n (now (room .entry)) (now (room .exit)) ⌝ }
 {
     match saying {
         Saying::Unsaid => 0,
@@ -183,8 +135,9 @@ fn put_replies(img: &[u8], room: &mut [u8], i: u8, m: &[u8], saying: Saying) -> 
 
 // The order first, then F, then the message up, each right behind the one before.
 fn put_records(img: &[u8], room: &mut [u8], i: u8, c: u8, m: &[u8], e: Effect) -> usize
-    requires { ⌜ (i < 16) × (length (now img) ≡ 760) × Lent (now img) × (128 ≤ length (now room)) ⌝ }
-    ensures { λ n. ⌜ (n ≤ 111) × Written (told i c (slot (tableOf (now (img .entry))) i) (macAt (tableOf (now (img .entry))) i) (now (m .entry)) e) n (now (room .entry)) (now (room .exit)) ⌝ }
+    requires { ⌜ LentRoom roomSize i (now img) (now room) ⌝ }
+    ensures { λ n. ⌜ WroteMost mostWritten
+        (allBytes (told i c (slot (tableOf (now (img .entry))) i) (macAt (tableOf (now (img .entry))) i) (now (m .entry)) e)) 0 n (now (room .entry)) (now (room .exit)) ⌝ }
 {
     let telling = e.order;
     let saying = e.up;
@@ -197,20 +150,20 @@ fn put_records(img: &[u8], room: &mut [u8], i: u8, c: u8, m: &[u8], e: Effect) -
 
 // An effect on stream i, where stream c carries, of the message m, or of the event whose record m is.
 fn enact(img: &mut [u8], room: &mut [u8], i: u8, c: u8, m: &[u8], e: Effect) -> u32
-    requires { ⌜ (length (now img) ≡ 760) × Lent (now img) × (128 ≤ length (now room)) × Enactable (tableOf (now img)) (decided.Does i c e) ⌝ }
+    requires { ⌜ Concludes (decided.Does i c e) (now img) (now room) ⌝ }
     ensures { λ r. ⌜ left r (now (img .exit)) (now (room .exit)) ≡ leaving (now (img .entry)) (now (room .entry)) (outcomeOf (tableOf (now (img .entry))) (now (m .entry)) (decided.Does i c e)) ⌝ }
 {
     let change = e.change;
     let carries = e.carries;
     let n = put_records(img, room, i, c, m, e);
-    change_stream(img, i, change);
-    carry(img, c, carries);
+    call_changes::change_stream(img, i, change);
+    call_changes::carry(img, c, carries);
     n as u32
 }
 
 // What was decided, of the message m, or of the event whose record m is. A refusal leaves all as it stood.
 pub fn conclude(img: &mut [u8], room: &mut [u8], m: &[u8], d: Decided) -> u32
-    requires { ⌜ (length (now img) ≡ 760) × Lent (now img) × (128 ≤ length (now room)) × Enactable (tableOf (now img)) d ⌝ }
+    requires { ⌜ Concludes d (now img) (now room) ⌝ }
     ensures { λ r. ⌜ left r (now (img .exit)) (now (room .exit)) ≡ leaving (now (img .entry)) (now (room .entry)) (outcomeOf (tableOf (now (img .entry))) (now (m .entry)) d) ⌝ }
 {
     match d {

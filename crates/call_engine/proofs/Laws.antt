@@ -12,11 +12,11 @@ use borrow.Author.Tests.{ltb-false}
 use Rattle.ledger.specs.Choice.{_⇒_∣_}
 use Rattle.ledger.proofs.Tallies.{both-of, skip}
 use Rattle.paper.specs.Base.{Table, stream}
-use Rattle.paper.specs.RecordsIn.{inputOf, messageIn}
+use Rattle.paper.specs.RecordsIn.{inputOf, messageIn, messageSize, headSize}
 use Rattle.paper.specs.Refusals.{littleRoom, notARecord, refused}
 use Rattle.paper.specs.Sound.{sound}
 use Rattle.paper.specs.StateRows.{stateRows}
-use Rattle.paper.specs.Step.{ofOpen, message, serveBy, isReadable, stepBy}
+use Rattle.paper.specs.Step.{ofOpen, message, serveBy, isReadable, stepBy, roomSize}
 use Rattle.paper.specs.declared.Input.{Input}
 use Rattle.paper.specs.declared.Input.the-variants as input
 use Rattle.paper.proofs.Input as the-input
@@ -27,6 +27,8 @@ use Rattle.call_outcomes.specs.Leaving.{leaving, callOf}
 use Rattle.call_events.specs.Bringing.{isOfLine}
 use Rattle.call_engine.specs.Reading.{isOpening, ReadOf}
 use Rattle.octets.proofs.Runs.{part-length}
+use Rattle.paper.specs.Saps.{mostOpen}
+use Rattle.octets.specs.Blocks.{blockSize}
 
 -- an image that is lent soundly is tidy, and its table sound
 pub parts : (img : List ℕ) → soundImage img ≡ true → (tidy img ≡ true) × (sound (tableOf img) ≡ true)
@@ -34,7 +36,7 @@ unfolding soundImage
 parts img h = both-of (tidy img) (sound (tableOf img)) h
 
 -- at most 8 are granted
-pub image-grants-few : (img : List ℕ) → soundImage img ≡ true → (i : ℕ) → stream (tableOf img) i .granted ≤ 8
+pub image-grants-few : (img : List ℕ) → soundImage img ≡ true → (i : ℕ) → stream (tableOf img) i .granted ≤ mostOpen
 image-grants-few img h = few-granted (tableOf img) (parts img h .1)
 
 -- ---- what a record asks for, by the tags of what was read
@@ -77,7 +79,7 @@ from-line (input.ResetConfirmed i) h k = refl
 
 -- ---- the bytes that an effect reads
 
-pub read-message : (r m : List ℕ) (q : Input) (i l : ℕ) → q ≡ input.Message i l → (l ≤ 96 → m ≡ messageIn r l) → ReadOf r q m
+pub read-message : (r m : List ℕ) (q : Input) (i l : ℕ) → q ≡ input.Message i l → (l ≤ blockSize → m ≡ messageIn r l) → ReadOf r q m
 read-message r m q i l e h = record {
   message = λ j k z s. let same : k ≡ l = cc in rw same (h (omega (arith, same, s)));
   event = λ k. absurd (false≢true (ap isOfLine (sym e) ∙ k));
@@ -90,18 +92,18 @@ read-other r q k = record {
 }
 
 -- a message has its L bytes
-pub read-size : (r m : List ℕ) (q : Input) (i l : ℕ) → q ≡ input.Message i l → inputOf r ≡ q → ReadOf r q m → l ≤ 96 → length m ≡ l
+pub read-size : (r m : List ℕ) (q : Input) (i l : ℕ) → q ≡ input.Message i l → inputOf r ≡ q → ReadOf r q m → l ≤ blockSize → length m ≡ l
 read-size r m q i l e f h s =
-    let long : 99 ≤ length r = subst (λ (q : Input). leastSize q ≤ length r) (f ∙ e) (read-long r) in
-    ap length (h .message i l e s) ∙ part-length r 3 l (omega (arith, long, s))
+    let long : messageSize ≤ length r = subst (λ (q : Input). leastSize q ≤ length r) (f ∙ e) (read-long r) in
+    ap length (h .message i l e s) ∙ part-length r headSize l (omega (arith, long, s))
 
 -- it is decided by them, and one over 96 bytes whatever they are
 pub any-message : (t : Table) (r m : List ℕ) (q : Input) (i l : ℕ) → q ≡ input.Message i l → ReadOf r q m
     → ofOpen t i (message stateRows t i l m) ≡ serveBy stateRows t r q
 unfolding message _⇒_∣_
-any-message t r m q i l e h = go (ltb 96 l) refl
+any-message t r m q i l e h = go (ltb blockSize l) refl
   where
-    go : (b : Bool) → ltb 96 l ≡ b → ofOpen t i (message stateRows t i l m) ≡ serveBy stateRows t r q
+    go : (b : Bool) → ltb blockSize l ≡ b → ofOpen t i (message stateRows t i l m) ≡ serveBy stateRows t r q
     go true f = rw (e, f)
     go false f = rw e (ap (λ (m : List ℕ). ofOpen t i (message stateRows t i l m)) (h .message i l e (ltb-false _ _ f)))
 
@@ -110,7 +112,9 @@ any-message t r m q i l e h = go (ltb 96 l) refl
 -- on a sound image it is what the record comes to
 pub call-on : (img r room : List ℕ) → soundImage img ≡ true
     → leaving img room
-    (not (isReadable (inputOf r)) ⇒ refused (tableOf img) notARecord ∣ ltb (length room) 128 ⇒ refused (tableOf img) littleRoom ∣ serveBy stateRows (tableOf img) r (inputOf r))
+    (not (isReadable (inputOf r)) ⇒ refused (tableOf img) notARecord
+    ∣ ltb (length room) roomSize ⇒ refused (tableOf img) littleRoom
+    ∣ serveBy stateRows (tableOf img) r (inputOf r))
     ≡ callOf img r room
 unfolding callOf stepBy
 call-on img r room h = sym (skip _ _ _ (ap not (parts img h .0)) ∙ ap (leaving img room) (skip _ _ _ (ap not (parts img h .1))))

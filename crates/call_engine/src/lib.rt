@@ -1,16 +1,13 @@
 // The call: it reads one record, decides by value what that comes to, and concludes it.
 ghost use mathlib.Core.Path.{_≡_};
-ghost use mathlib.Core.Bool.{true, false};
-ghost use Prim.Native.Nat.{_≤_};
-ghost use lib.ListN.{length};
+ghost use mathlib.Core.Bool.{true};
 ghost use Rattle.paper.specs.RecordsIn.{inputOf};
 ghost use Rattle.paper.specs.StateRows.{stateRows};
 ghost use Rattle.paper.specs.Step.{ofOpen, message, serveBy, isReadable};
 ghost use Rattle.table_image.specs.Layout.{tableOf, soundImage};
-ghost use Rattle.table_image.specs.Lent.{Lent};
 ghost use Rattle.call_outcomes.specs.Leaving.{left, leaving, callOf};
 ghost use Rattle.call_outcomes.specs.Deciding.{Rightly};
-ghost use Rattle.call_engine.specs.Reading.{ReadOf, isOpening};
+ghost use Rattle.call_engine.specs.Reading.{ReadOf, Measured, ToStream, Servable};
 use call_outcomes::Decided;
 use call_outcomes::LITTLE_ROOM;
 use call_outcomes::NO_CODE;
@@ -18,7 +15,11 @@ use call_outcomes::NOT_A_RECORD;
 use call_outcomes::NOT_OPEN;
 use call_outcomes::NOT_SOUND;
 use call_outcomes::OVER_LONG;
+use octets::BLOCK_SIZE;
+use paper::HEAD_SIZE;
 use paper::Input;
+use paper::MAC_SIZE;
+use paper::ROOM_SIZE;
 
 // ---- what comes to a stream
 
@@ -29,11 +30,11 @@ fn read_of<'a>(r: &'a [u8], q: Input) -> &'a [u8]
 {
     match q {
         Input::Message(_, l) => {
-            if 96 < l {
+            if BLOCK_SIZE < l as usize {
                 return r;
             }
-            let end = 3 + l as usize;
-            &r[3..end]
+            let end = HEAD_SIZE + l as usize;
+            &r[HEAD_SIZE..end]
         }
         _ => r,
     }
@@ -41,13 +42,13 @@ fn read_of<'a>(r: &'a [u8], q: Input) -> &'a [u8]
 
 // A message of stream i: refusals 2, 5 and 4, then its answer.
 fn message_to(img: &[u8], i: u8, l: u8, m: &[u8]) -> Decided
-    requires { ⌜ (length (now img) ≡ 760) × Lent (now img) × (l ≤ 96 → length (now m) ≡ l) ⌝ }
+    requires { ⌜ Measured l (now img) (now m) ⌝ }
     ensures { λ d. ⌜ Rightly (tableOf (now (img .entry))) (now (m .entry)) d (ofOpen (tableOf (now (img .entry))) i (message stateRows (tableOf (now (img .entry))) i l (now (m .entry)))) ⌝ }
 {
     if !table_image::is_open(img, i as usize) {
         return Decided::Refuses(NOT_OPEN);
     }
-    if 96 < l {
+    if BLOCK_SIZE < l as usize {
         return Decided::Refuses(OVER_LONG);
     }
     if l < 4 {
@@ -58,7 +59,7 @@ fn message_to(img: &[u8], i: u8, l: u8, m: &[u8]) -> Decided
 
 // Any message, any event.
 fn decide_coming(img: &[u8], r: &[u8], m: &[u8], q: Input) -> Decided
-    requires { ⌜ (length (now img) ≡ 760) × (soundImage (now img) ≡ true) × (inputOf (now r) ≡ q) × (isOpening q ≡ false) × ReadOf (now r) q (now m) ⌝ }
+    requires { ⌜ ToStream q (now img) (now r) (now m) ⌝ }
     ensures { λ d. ⌜ Rightly (tableOf (now (img .entry))) (now (m .entry)) d (serveBy stateRows (tableOf (now (img .entry))) (now (r .entry)) q) ⌝ }
 {
     match q {
@@ -71,11 +72,11 @@ fn decide_coming(img: &[u8], r: &[u8], m: &[u8], q: Input) -> Decided
 
 // A record that was read as q, in room enough.
 fn serve(img: &mut [u8], room: &mut [u8], r: &[u8], q: Input) -> u32
-    requires { ⌜ (length (now img) ≡ 760) × (soundImage (now img) ≡ true) × (128 ≤ length (now room)) × (inputOf (now r) ≡ q) ⌝ }
+    requires { ⌜ Servable q (now img) (now r) (now room) ⌝ }
     ensures { λ n. ⌜ left n (now (img .exit)) (now (room .exit)) ≡ leaving (now (img .entry)) (now (room .entry)) (serveBy stateRows (tableOf (now (img .entry))) (now (r .entry)) q) ⌝ }
 {
     match q {
-        Input::AddPpa(p) => call_openings::add_ppa(img, p, octets::part_at(r, 5, 6)),
+        Input::AddPpa(p) => call_openings::add_ppa(img, p, octets::part_at(r, 5, MAC_SIZE)),
         Input::Open => call_openings::open_stream(img),
         Input::Close(i) => call_openings::close_stream(img, room, i),
         _ => {
@@ -114,7 +115,7 @@ pub fn call_sound(img: &mut [u8], r: &[u8], room: &mut [u8]) -> u32
     if !is_readable(q) {
         return call_outcomes::refusing(NOT_A_RECORD);
     }
-    if room.len() < 128 {
+    if room.len() < ROOM_SIZE {
         return call_outcomes::refusing(LITTLE_ROOM);
     }
     serve(img, room, r, q)

@@ -31,6 +31,7 @@ use Rattle.call_outcomes.specs.Deciding.{outcomeOf}
 use Rattle.call_outcomes.specs.declared.Decided.the-variants.{Does}
 use Rattle.call_events.specs.DueRow.{dueRow}
 use Rattle.call_events.specs.Bringing.{isOfLine}
+use Rattle.paper.specs.Saps.{mostOpen}
 
 module _ (t : Table) (i : ℕ) (r : List ℕ) (refusal : ℕ) (e : Event) where
   -- an effect of what the line brings: it names no stream that would carry
@@ -56,7 +57,8 @@ module _ (t : Table) (i : ℕ) (r : List ℕ) (refusal : ℕ) (e : Event) where
     pub no-row : f ≡ Missing → refused t refusal ≡ comes stateRows t i r (brings refusal e)
     no-row h = ap by (sym h ∙ d) ∙ by-due-row
 
-    pub by-row : (x : StateRow) (s : Stream) (w : Effect) → f ≡ At x → s ≡ stream t i → w ≡ eventEffect x s e → doing w ≡ comes stateRows t i r (brings refusal e)
+    pub by-row : (x : StateRow) (s : Stream) (w : Effect) → f ≡ At x → s ≡ stream t i → w ≡ eventEffect x s e
+        → doing w ≡ comes stateRows t i r (brings refusal e)
     by-row x s w h es z = ap doing (z ∙ ap (λ (s : Stream). eventEffect x s e) es) ∙ ap by (sym h ∙ d) ∙ by-due-row
 
 -- ---- an indication that is due finds a place; no other event takes one
@@ -69,8 +71,8 @@ due t i e x h = go (isDue (slot t i) e) h
     go true h = refl
     go false h = absurd (false≢true (ap isFound h))
 
-has-place : (t : Table) (i : ℕ) (x : StateRow) (s : Stream) (e : Event) → isDue (slot t i) e ≡ true → stream t i .granted ≤ 8
-    → takes (eventEffect x s e .change) ≡ true → length (waiting t i) < 8
+has-place : (t : Table) (i : ℕ) (x : StateRow) (s : Stream) (e : Event) → isDue (slot t i) e ≡ true → stream t i .granted ≤ mostOpen
+    → takes (eventEffect x s e .change) ≡ true → length (waiting t i) < mostOpen
 unfolding eventEffect
 has-place t i x s (event.Arrives n) d g h = omega (arith, ltb-true (length (waiting t i)) (stream t i .granted) d)
 has-place t i x s event.Accepted d g h = absurd (false≢true h)
@@ -80,7 +82,7 @@ has-place t i x s (event.Resets reason) d g h = absurd (false≢true h)
 has-place t i x s event.Confirmed d g h = absurd (false≢true h)
 
 pub place : (t : Table) (i : ℕ) (e : Event) (f : Found) (x : StateRow) (s : Stream) (w : Effect) → f ≡ dueRow t i e → f ≡ At x → w ≡ eventEffect x s e
-    → stream t i .granted ≤ 8 → takes (w .change) ≡ true → length (waiting t i) < 8
+    → stream t i .granted ≤ mostOpen → takes (w .change) ≡ true → length (waiting t i) < mostOpen
 place t i e f x s w d h z g k = has-place t i x s e (due t i e x (sym d ∙ h)) g (ap (λ (w : Effect). takes (w .change)) (sym z) ∙ k)
 
 -- ---- of the records that bring no event, those that are not the line's are ruled out, and the others cannot be read

@@ -1,11 +1,10 @@
 // What the line brings.
 ghost use mathlib.Core.Path.{_≡_};
-ghost use mathlib.Core.Bool.{true};
 ghost use mathlib.Core.List.{List};
-ghost use Prim.Native.Nat.{ℕ, _<_, _≤_};
-ghost use lib.ListN.{length, take};
+ghost use Prim.Native.Nat.{ℕ};
+ghost use lib.ListN.{take};
 ghost use Rattle.octets.specs.Runs.{sameBytes};
-ghost use Rattle.paper.specs.Base.{slot, stream, macOf};
+ghost use Rattle.paper.specs.Base.{slot, macOf, macSize};
 ghost use Rattle.paper.specs.RecordsIn.{calledIn};
 ghost use Rattle.paper.specs.Refusals.{unexpected};
 ghost use Rattle.paper.specs.StateRows.{stateRows};
@@ -13,10 +12,10 @@ ghost use Rattle.paper.specs.Sight.{brings};
 ghost use Rattle.paper.specs.Decide.{isDue};
 ghost use Rattle.paper.specs.Step.{comes, ofOpen, arrives, serveBy};
 ghost use Rattle.table_image.specs.Layout.{tableOf};
-ghost use Rattle.table_image.specs.Lent.{Lent};
+ghost use Rattle.table_image.specs.Lent.{Lent, Loaded};
 ghost use Rattle.call_outcomes.specs.Deciding.{Rightly};
 ghost use Rattle.call_events.specs.DueRow.{dueRow};
-ghost use Rattle.call_events.specs.Bringing.{RightlyBrought, isOfLine};
+ghost use Rattle.call_events.specs.Bringing.{RightlyBrought, Comes, OfLine, Occurs};
 use call_outcomes::BUSY;
 use call_outcomes::Decided;
 use call_outcomes::NOBODY_THERE;
@@ -27,14 +26,16 @@ use paper::Correlation;
 use paper::Event;
 use paper::Found;
 use paper::Input;
+use paper::MAC_SIZE;
 use paper::PpaNumber;
+use paper::STREAM_TOTAL;
 use paper::Stream;
 
 // ---- the row by which an event may come
 
 // I: the listener has less than its granted count open. W: the number is open on that stream.
 fn is_due(img: &[u8], i: u8, s: Stream, event: Event) -> bool
-    requires { ⌜ (i < 16) × (length (now img) ≡ 760) × Lent (now img) × (s ≡ stream (tableOf (now img)) i) ⌝ }
+    requires { ⌜ Loaded s i (now img) ⌝ }
     ensures { λ r. ⌜ r ≡ isDue (slot (tableOf (now (img .entry))) i) event ⌝ }
 {
     match event {
@@ -52,7 +53,7 @@ fn is_due(img: &[u8], i: u8, s: Stream, event: Event) -> bool
 
 // The stream's row for an event; none where it is not due. Stream i stands as s.
 fn row_of(img: &[u8], i: u8, s: Stream, event: Event) -> Found
-    requires { ⌜ (i < 16) × (length (now img) ≡ 760) × Lent (now img) × (s ≡ stream (tableOf (now img)) i) ⌝ }
+    requires { ⌜ Loaded s i (now img) ⌝ }
     ensures { λ r. ⌜ r ≡ dueRow (tableOf (now (img .entry))) i event ⌝ }
 {
     if !is_due(img, i, s, event) {
@@ -63,7 +64,7 @@ fn row_of(img: &[u8], i: u8, s: Stream, event: Event) -> Found
 
 // An event of stream i: what its row says, or the refusal.
 fn come(img: &[u8], i: u8, refusal: u8, event: Event) -> Decided
-    requires { ⌜ (i < 16) × (length (now img) ≡ 760) × Lent (now img) × (0 < refusal) × (stream (tableOf (now img)) i .granted ≤ 8) ⌝ }
+    requires { ⌜ Comes i refusal (now img) ⌝ }
     ensures { λ d. ⌜ ((r : List ℕ) → Rightly (tableOf (now (img .entry))) r d (comes stateRows (tableOf (now (img .entry))) i r (brings refusal event))) ⌝ }
 {
     let s = table_image::load_stream(img, i as usize);
@@ -86,8 +87,9 @@ enum Brought {
 
 // A, D, W, R and S name their stream: 2 unless it is open, then 6 where there is no row.
 fn named(img: &[u8], i: u8, event: Event) -> Brought
-    requires { ⌜ (length (now img) ≡ 760) × Lent (now img) ⌝ }
-    ensures { λ b. ⌜ ((r : List ℕ) → RightlyBrought (tableOf (now (img .entry))) r b (ofOpen (tableOf (now (img .entry))) i (comes stateRows (tableOf (now (img .entry))) i r (brings unexpected event)))) ⌝ }
+    requires { ⌜ Lent (now img) ⌝ }
+    ensures { λ b. ⌜ ((r : List ℕ) → RightlyBrought (tableOf (now (img .entry))) r b
+        (ofOpen (tableOf (now (img .entry))) i (comes stateRows (tableOf (now (img .entry))) i r (brings unexpected event)))) ⌝ }
 {
     if !table_image::is_open(img, i as usize) {
         return Brought::Refused(NOT_OPEN);
@@ -97,17 +99,17 @@ fn named(img: &[u8], i: u8, event: Event) -> Brought
 
 // The called MAC is that of the PPA. In the record the called address comes first, its MAC before its SAP.
 fn is_called(img: &[u8], p: PpaNumber, r: &[u8]) -> bool
-    requires { ⌜ (length (now img) ≡ 760) × Lent (now img) ⌝ }
-    ensures { λ b. ⌜ b ≡ sameBytes (take 6 (calledIn (now (r .entry)))) (macOf (tableOf (now (img .entry))) p) ⌝ }
+    requires { ⌜ Lent (now img) ⌝ }
+    ensures { λ b. ⌜ b ≡ sameBytes (take macSize (calledIn (now (r .entry)))) (macOf (tableOf (now (img .entry))) p) ⌝ }
 {
     let mac = table_lookup::mac_of(img, p);
-    octets::same_bytes(octets::part_at(r, 5, 6), &mac)
+    octets::same_bytes(octets::part_at(r, 5, MAC_SIZE), &mac)
 }
 
 // I comes to its listener, with the next number: 7 unless the PPA is known and has the called MAC, and somebody listens for it
 // and the SAP; then 8 where the listener is busy.
 fn arrives(img: &[u8], p: PpaNumber, sap: u8, r: &[u8]) -> Brought
-    requires { ⌜ (length (now img) ≡ 760) × Lent (now img) ⌝ }
+    requires { ⌜ Lent (now img) ⌝ }
     ensures { λ b. ⌜ RightlyBrought (tableOf (now (img .entry))) (now (r .entry)) b (arrives stateRows (tableOf (now (img .entry))) p sap (now (r .entry))) ⌝ }
 {
     if !table_lookup::knows(img, p) {
@@ -117,7 +119,7 @@ fn arrives(img: &[u8], p: PpaNumber, sap: u8, r: &[u8]) -> Brought
         return Brought::Refused(NOBODY_THERE);
     }
     let i = table_lookup::listener(img, p, octets::wide(sap));
-    if 16 <= i {
+    if STREAM_TOTAL <= i {
         return Brought::Refused(NOBODY_THERE);
     }
     let n = table_numbers::next_number(img);
@@ -126,7 +128,7 @@ fn arrives(img: &[u8], p: PpaNumber, sap: u8, r: &[u8]) -> Brought
 
 // By the record's kind. (What could not be read is refusal 10.)
 fn bring(img: &[u8], r: &[u8], q: Input) -> Brought
-    requires { ⌜ (length (now img) ≡ 760) × Lent (now img) × (isOfLine q ≡ true) ⌝ }
+    requires { ⌜ OfLine q (now img) ⌝ }
     ensures { λ b. ⌜ RightlyBrought (tableOf (now (img .entry))) (now (r .entry)) b (serveBy stateRows (tableOf (now (img .entry))) (now (r .entry)) q) ⌝ }
 {
     match q {
@@ -144,7 +146,7 @@ fn bring(img: &[u8], r: &[u8], q: Input) -> Brought
 
 // What is decided of a record of the line.
 pub fn occur(img: &[u8], r: &[u8], q: Input) -> Decided
-    requires { ⌜ (length (now img) ≡ 760) × Lent (now img) × ((i : ℕ) → stream (tableOf (now img)) i .granted ≤ 8) × (isOfLine q ≡ true) ⌝ }
+    requires { ⌜ Occurs q (now img) ⌝ }
     ensures { λ d. ⌜ Rightly (tableOf (now (img .entry))) (now (r .entry)) d (serveBy stateRows (tableOf (now (img .entry))) (now (r .entry)) q) ⌝ }
 {
     let b = bring(img, r, q);

@@ -13,7 +13,7 @@ use Rattle.ledger.specs.Choice.{_⇒_∣_}
 use Rattle.ledger.specs.Tally.{oneIf, sumOf, firstOf}
 use Rattle.ledger.proofs.Tallies.{first-holds, first-none, none-first}
 use Rattle.ledger.proofs.Lists.{joined-append}
-use Rattle.paper.specs.Base.{Slot, Table, slot, closed, lowestFree}
+use Rattle.paper.specs.Base.{Slot, Table, slot, closed, lowestFree, streamTotal}
 use Rattle.paper.specs.RecordsOut.{Record, order, bytesOf, allBytes}
 use Rattle.paper.specs.Refusals.{servedOpening}
 use Rattle.paper.specs.Openings.{goodbye}
@@ -31,20 +31,20 @@ isFree x = not (x .isOpen)
 
 -- n streams are free
 module _ (t : Table) (s : Shaped t) (n : ℕ) (e : n ≡ sumOf (λ (x : Slot). oneIf (not (x .isOpen))) (t .slots)) where
-  pub none-free : n ≡ 0 → 16 ≤ lowestFree t
+  pub none-free : n ≡ 0 → streamTotal ≤ lowestFree t
   unfolding lowestFree
   none-free z = omega (arith, s .sixteen, none-first isFree (t .slots) (sym e ∙ z))
 
-  pub some-free : (n ≡ 0 → ⊥) → lowestFree t < 16
+  pub some-free : (n ≡ 0 → ⊥) → lowestFree t < streamTotal
   unfolding lowestFree
-  some-free h = go (ltb (firstOf isFree (t .slots)) 16) refl
+  some-free h = go (ltb (firstOf isFree (t .slots)) streamTotal) refl
     where
-      go : (b : Bool) → ltb (firstOf isFree (t .slots)) 16 ≡ b → firstOf isFree (t .slots) < 16
-      go true q = ltb-true (firstOf isFree (t .slots)) 16 q
-      go false q = absurd (h (e ∙ first-none isFree (t .slots) (omega (arith, s .sixteen, ltb-false (firstOf isFree (t .slots)) 16 q))))
+      go : (b : Bool) → ltb (firstOf isFree (t .slots)) streamTotal ≡ b → firstOf isFree (t .slots) < streamTotal
+      go true q = ltb-true (firstOf isFree (t .slots)) streamTotal q
+      go false q = absurd (h (e ∙ first-none isFree (t .slots) (omega (arith, s .sixteen, ltb-false (firstOf isFree (t .slots)) streamTotal q))))
 
 -- it is not open
-pub free-shut : (t : Table) → Shaped t → (i : ℕ) → i ≡ lowestFree t → i < 16 → slot t i .isOpen ≡ false
+pub free-shut : (t : Table) → Shaped t → (i : ℕ) → i ≡ lowestFree t → i < streamTotal → slot t i .isOpen ≡ false
 unfolding lowestFree
 free-shut t s i e h =
     ap (λ (k : ℕ). slot t k .isOpen) e

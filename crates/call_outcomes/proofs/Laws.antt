@@ -7,7 +7,6 @@ use mathlib.Core.List.{List}
 use borrow.Author.Tests.{lt-ltb}
 use lib.ListN.{length}
 use Rattle.ledger.specs.Choice.{_⇒_∣_, both}
-use Rattle.octets.specs.Runs.{over}
 use Rattle.paper.specs.Base.{Table}
 use Rattle.paper.specs.RecordsOut.{Record, allBytes}
 use Rattle.paper.specs.Refusals.{Outcome, refused, served, notSound}
@@ -15,14 +14,16 @@ use Rattle.paper.specs.Sound.{sound}
 use Rattle.paper.specs.Step.{stepBy}
 use Rattle.table_image.specs.Layout.{tableOf, imageOf, tidy, soundImage}
 use Rattle.call_outcomes.specs.Leaving.{Left, left, refusing, leaving, callOf}
+use Rattle.octets.specs.Writing.{Wrote}
+use Rattle.octets.proofs.Writing.{wrote-over}
 
 -- a served call leaves its table's image and its records at the start of the room
 pub leaves-served : (img room : List ℕ) (t : Table) (rs : List Record) (n : ℕ) (img' room' : List ℕ)
-    → n ≡ length (allBytes rs) → img' ≡ imageOf t → room' ≡ over (allBytes rs) room → left n img' room' ≡ leaving img room (served t rs)
+    → Wrote (allBytes rs) 0 n room room' → img' ≡ imageOf t → left n img' room' ≡ leaving img room (served t rs)
 unfolding leaving _⇒_∣_
-leaves-served img room t rs n img' room' a b c =
-    let e : n ≡ length (allBytes rs) + 0 = omega (arith, a) in
-    λ i. left (e i) (b i) (c i)
+leaves-served img room t rs n img' room' w b =
+    let e : n ≡ length (allBytes rs) + 0 = omega (arith, w .ends) in
+    λ i. left (e i) (b i) (wrote-over (allBytes rs) w i)
 
 -- ---- tests, one after another
 

@@ -4,22 +4,29 @@ use mathlib.Core.Path.{_≡_}
 use mathlib.Core.Bool.{true}
 use mathlib.Core.List.{List}
 use lib.ListN.{length}
-use Rattle.paper.specs.Base.{Table, slot, waiting, macAt}
+use Rattle.paper.specs.Base.{Table, slot, waiting, macAt, streamTotal}
 use Rattle.paper.specs.Refusals.{Outcome, refused, served}
 use Rattle.paper.specs.Effects.{enacted, told}
+use Rattle.paper.specs.declared.Effect.{Effect}
 use Rattle.call_outcomes.specs.Takes.{takes}
 use Rattle.call_outcomes.specs.declared.Decided.{Decided}
 use Rattle.call_outcomes.specs.declared.Decided.the-variants.{Refuses, Does}
+use Rattle.paper.specs.Saps.{mostOpen}
 
 -- what it comes to, where m is the message, or the record of the event
 abbrev pub outcomeOf : Table → List ℕ → Decided → Outcome
 outcomeOf t m (Refuses n) = refused t n
 outcomeOf t m (Does i c e) = served (enacted t i c m e) (told i c (slot t i) (macAt t i) m e)
 
--- It can be enacted: a refusal has a number, and a stream of the table that takes an open indication has a place for it.
+-- The stream is one of the table, and has a place for an open indication that it takes.
+pub record Placed (t : Table) (i : ℕ) (e : Effect) : Type 0 where
+  pub within : i < streamTotal
+  pub place : takes (e .change) ≡ true → length (waiting t i) < mostOpen
+
+-- It can be enacted: a refusal has a number, an effect its stream and its place.
 abbrev pub Enactable : Table → Decided → Type 0
 Enactable t (Refuses n) = 0 < n
-Enactable t (Does i c e) = (i < 16) × (takes (e .change) ≡ true → length (waiting t i) < 8)
+Enactable t (Does i c e) = Placed t i e
 
 -- It is decided as it should be.
 pub record Rightly (t : Table) (m : List ℕ) (d : Decided) (o : Outcome) : Type 0 where

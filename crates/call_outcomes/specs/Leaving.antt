@@ -8,7 +8,7 @@ use Rattle.ledger.specs.Choice.{_⇒_∣_}
 use Rattle.octets.specs.Runs.{over}
 use Rattle.paper.specs.RecordsOut.{allBytes}
 use Rattle.paper.specs.Refusals.{notSound, Outcome}
-use Rattle.paper.specs.Step.{step}
+use Rattle.paper.specs.Step.{step, roomSize}
 use Rattle.table_image.specs.Layout.{tableOf, imageOf, tidy}
 
 pub record Left : Type 0 where
@@ -49,10 +49,10 @@ leaving img room o =
 unfoldable pub callOf : List ℕ → List ℕ → List ℕ → Left
 callOf img r room = not (tidy img) ⇒ left (refusing notSound) img room ∣ leaving img room (step (tableOf img) r (length room))
 
--- ---- as the programs make it: with a room of 128 zeros
+-- ---- as the programs make it: with a room of zeros, as large as a call needs
 
 abbrev pub callMade : List ℕ → List ℕ → Left
-callMade img r = callOf img r (replicate 128 0)
+callMade img r = callOf img r (replicate roomSize 0)
 
 abbrev pub isRefused : Left → Bool
 isRefused l = ltb 0 (refusalIn (l .number))

@@ -1,5 +1,5 @@
 -- What fates prints from its register is what the history says: the counts are those of `fates` of the history.
-use Prim.Native.Nat.{ℕ, zero, suc, _+_, _*_, _<_}
+use Prim.Native.Nat.{ℕ, zero, suc, _+_, _<_}
 use mathlib.Core.Path.{_≡_, refl, sym, ap, subst, _∙_}
 use mathlib.Core.Bool.{true}
 use mathlib.Core.List.{List, [], _∷_, _++_, append-assoc, append-nil}
@@ -9,8 +9,9 @@ use Rattle.ledger.specs.Tally.{has, sumOf, firstOf}
 use Rattle.fates_book.specs.declared.End.{End}
 use Rattle.fates_book.specs.declared.Line.{Line}
 use Rattle.fates_book.specs.Book.{Opening, openOf, openCount, leftOpen, newest, posts, tallies, overStreams}
-use Rattle.fates_book.proofs.Shades.{fairs, rooteds}
-use Rattle.fates_register.specs.Register.{blank, placeOf, openOn, enteredAll}
+use Rattle.paper.specs.Base.{streamTotal}
+use Rattle.fates_register.specs.Register.{endTotal, countTotal, totalsAt, pageOf, mostCount, blank, placeOf, openOn, enteredAll}
+use Rattle.fates_register.proofs.History.{MayCome}
 use Rattle.fates_register.proofs.Kept.{fine-front, kept-openings, kept-counts, kept-open, kept-all-openings, kept-all-counts, found-place, found-number}
 use Rattle.fates_register.proofs.Places.{isMarked}
 use Rattle.fates_register.proofs.Whole.{over-same}
@@ -39,8 +40,8 @@ two-numbers : (p : List ℕ) (c v w : ℕ) (l : List ℕ) → getD l c 0 ≡ v �
 two-numbers p c v w l e f = next-shown p 1 c (c + 1) v l e refl ∙ one-number (p ++ spacedNumber v) (c + 1) w l f
 
 -- six, as they stand on a page
-six-numbers : (p : List ℕ) (c v : ℕ) (f : ℕ → ℕ) (l : List ℕ) → getD l c 0 ≡ v → ((k : ℕ) → k < 5 → getD l (c + 1 + k) 0 ≡ f k)
-    → p ++ numbers 6 c l ≡ p ++ spacedNumber v ++ spacedNumber (f 0) ++ spacedNumber (f 1) ++ spacedNumber (f 2) ++ spacedNumber (f 3) ++ spacedNumber (f 4)
+six-numbers : (p : List ℕ) (c v : ℕ) (f : ℕ → ℕ) (l : List ℕ) → getD l c 0 ≡ v → ((k : ℕ) → k < 1 + endTotal → getD l (c + 1 + k) 0 ≡ f k)
+    → p ++ numbers countTotal c l ≡ p ++ spacedNumber v ++ spacedNumber (f 0) ++ spacedNumber (f 1) ++ spacedNumber (f 2) ++ spacedNumber (f 3) ++ spacedNumber (f 4)
 six-numbers p c v f l e g =
     next-shown p 5 c (c + 1 + 0) v l e (omega arith)
     ∙ next-shown (p ++ spacedNumber v) 4 (c + 1 + 0) (c + 1 + 1) (f 0) l (g 0 (omega arith)) (omega arith)
@@ -72,54 +73,59 @@ over-open : (l : List ℕ) (n : ℕ) → openOnAll n 0 l ≡ overStreams n (λ s
 unfolding overStreams
 over-open l n = let z : 0 + openOnAll n 0 l ≡ overStreams n (λ s. openOn s l) = over-from l n n 0 (omega arith) in omega arith
 
-module _ (img register : List ℕ) (w : Told img register) (short : length (lines (heardIn (w .harness))) < 18446744073709551615) where
+may-come : (x : Harness) (s : ℕ) → MayCome s (lines (heardIn x)) []
+may-come x s = let h = fair-heard x s in record { fairly = h .0; rootedly = h .1 }
+
+module _ (img register : List ℕ) (w : Told img register) (short : length (lines (heardIn (w .harness))) < mostCount) where
   abbrev pub h : List Answered
   h = heardIn (w .harness)
 
-  fine : (s : ℕ) → s < 16 → (fairs s (lines (heardIn (w .harness))) [] ≡ true) × (rooteds s (lines (heardIn (w .harness))) 0 ≡ true)
-  fine s m = fair-heard (w .harness) s
+  fine : (s : ℕ) → s < streamTotal → MayCome s (lines (heardIn (w .harness))) []
+  fine s m = may-come (w .harness) s
 
-  open-is : (s : ℕ) → s < 16 → openOn s register ≡ openCount (newest (fates s h))
+  open-is : (s : ℕ) → s < streamTotal → openOn s register ≡ openCount (newest (fates s h))
   open-is s m = ap (openOn s) (w .entered) ∙ kept-open (lines h) fine short s m
 
   -- The line of an opening shows the counts of the history.
-  pub opening-told : (s : ℕ) → s < 16 → openingLine s register ≡ openingShown s h
+  pub opening-told : (s : ℕ) → s < streamTotal → openingLine s register ≡ openingShown s h
   unfolding openingShown
   opening-told s m =
       ap (λ (l : List ℕ). l ++ spacedNumber (openOn s register) ++ (10 ∷ []))
-      (six-numbers (wordOpening ++ spacedNumber s) (s * 24) (length (fates s h)) (λ k. getD (tallies k s (lines h) []) 0 0) register
-      (ap (λ (l : List ℕ). getD l (s * 24) 0) (w .entered) ∙ kept-openings (lines h) fine short s m)
-      (λ k b. ap (λ (l : List ℕ). getD l (s * 24 + 1 + k) 0) (w .entered) ∙ kept-counts (lines h) fine short s k m b))
-      ∙ ap (λ (n : ℕ). wordOpening ++ spacedNumber s ++ spacedNumber (length (fates s h)) ++ spacedNumber (indicated s 0 h) ++ spacedNumber (accepted s 0 h) ++ spacedNumber (denied s 0 h) ++ spacedNumber (withdrawn s 0 h) ++ spacedNumber (dropped s 0 h) ++ spacedNumber n ++ (10 ∷ []))
+      (six-numbers (wordOpening ++ spacedNumber s) (pageOf s) (length (fates s h)) (λ k. getD (tallies k s (lines h) []) 0 0) register
+      (ap (λ (l : List ℕ). getD l (pageOf s) 0) (w .entered) ∙ kept-openings (lines h) fine short s m)
+      (λ k b. ap (λ (l : List ℕ). getD l (pageOf s + 1 + k) 0) (w .entered) ∙ kept-counts (lines h) fine short s k m b))
+      ∙ ap (λ (n : ℕ). wordOpening ++ spacedNumber s ++ spacedNumber (length (fates s h)) ++ spacedNumber (indicated s 0 h)
+      ++ spacedNumber (accepted s 0 h) ++ spacedNumber (denied s 0 h) ++ spacedNumber (withdrawn s 0 h) ++ spacedNumber (dropped s 0 h) ++ spacedNumber n ++ (10 ∷ []))
       (open-is s m ∙ ap openCount (sym (newest-first (fates s h))))
 
-  open-all : openOnAll 16 0 register ≡ overStreams 16 (λ s. sumOf openCount (fates s h))
+  open-all : openOnAll streamTotal 0 register ≡ overStreams streamTotal (λ s. sumOf openCount (fates s h))
   open-all =
-      over-open register 16 ∙ over-same 16 (λ s. sumOf openCount (fates s h)) (λ s. openOn s register) (λ s m. open-is s m ∙ sym (all-open (fates s h) (agreed (w .harness) s .left)))
+      over-open register streamTotal ∙ over-same streamTotal (λ s. sumOf openCount (fates s h)) (λ s. openOn s register) (λ s m. open-is s m ∙ sym (all-open (fates s h) (agreed (w .harness) s .left)))
 
   -- The last line shows the counts over all openings of all streams.
   pub total-told : totalLine register ≡ totalShown h
   unfolding totalShown
   total-told =
-      ap (λ (l : List ℕ). l ++ spacedNumber (openOnAll 16 0 register) ++ (10 ∷ []))
-      (six-numbers wordTotal 384 (overStreams 16 (λ s. length (fates s h))) (λ k. totalOf k h) register
-      (ap (λ (l : List ℕ). getD l 384 0) (w .entered) ∙ kept-all-openings (lines h) fine short)
-      (λ k b. ap (λ (l : List ℕ). getD l (385 + k) 0) (w .entered) ∙ kept-all-counts (lines h) fine short k b))
-      ∙ ap (λ (n : ℕ). wordTotal ++ spacedNumber (overStreams 16 (λ s. length (fates s h))) ++ spacedNumber (totalOf 0 h) ++ spacedNumber (totalOf 1 h) ++ spacedNumber (totalOf 2 h) ++ spacedNumber (totalOf 3 h) ++ spacedNumber (totalOf 4 h) ++ spacedNumber n ++ (10 ∷ [])) open-all
+      ap (λ (l : List ℕ). l ++ spacedNumber (openOnAll streamTotal 0 register) ++ (10 ∷ []))
+      (six-numbers wordTotal totalsAt (overStreams streamTotal (λ s. length (fates s h))) (λ k. totalOf k h) register
+      (ap (λ (l : List ℕ). getD l totalsAt 0) (w .entered) ∙ kept-all-openings (lines h) fine short)
+      (λ k b. ap (λ (l : List ℕ). getD l (totalsAt + 1 + k) 0) (w .entered) ∙ kept-all-counts (lines h) fine short k b))
+      ∙ ap (λ (n : ℕ). wordTotal ++ spacedNumber (overStreams streamTotal (λ s. length (fates s h))) ++ spacedNumber (totalOf 0 h)
+      ++ spacedNumber (totalOf 1 h) ++ spacedNumber (totalOf 2 h) ++ spacedNumber (totalOf 3 h) ++ spacedNumber (totalOf 4 h) ++ spacedNumber n ++ (10 ∷ [])) open-all
 
 -- ---- the line of an indication, at any line of a history
 
 -- The line of an indication that ends shows the place and the number of that very one: xs are the lines up to there.
-pub indication-told : (x : Harness) (xs ys : List Line) → lines (heardIn x) ≡ xs ++ ys → length xs < 18446744073709551615
-    → (s n : ℕ) (e : End) → s < 16 → has n (openOf (newest (posts s xs []))) ≡ true
+pub indication-told : (x : Harness) (xs ys : List Line) → lines (heardIn x) ≡ xs ++ ys → length xs < mostCount
+    → (s n : ℕ) (e : End) → s < streamTotal → has n (openOf (newest (posts s xs []))) ≡ true
     → indicationLine s (placeOf s n (enteredAll xs blank)) (wordOf e) (enteredAll xs blank) ≡ indicationShown s n e (posts s xs [])
 unfolding indicationShown
 indication-told x xs ys q short s n e m f =
     ap (λ (l : List ℕ). l ++ numbers 2 (placeOf s n (enteredAll xs blank)) (enteredAll xs blank) ++ wordOf e ++ (10 ∷ []))
-    (one-number (wordCall ++ spacedNumber s) (s * 24) (length (posts s xs [])) (enteredAll xs blank) (kept-openings xs fine short s m))
+    (one-number (wordCall ++ spacedNumber s) (pageOf s) (length (posts s xs [])) (enteredAll xs blank) (kept-openings xs fine short s m))
     ∙ ap (λ (l : List ℕ). l ++ wordOf e ++ (10 ∷ []))
     (two-numbers (wordCall ++ spacedNumber s ++ spacedNumber (length (posts s xs []))) (placeOf s n (enteredAll xs blank)) (suc (firstOf (isMarked n) (newest (posts s xs [])))) n (enteredAll xs blank)
     (found-place xs fine short s n m f) (found-number xs fine short s n m f))
   where
-    fine : (s : ℕ) → s < 16 → (fairs s xs [] ≡ true) × (rooteds s xs 0 ≡ true)
-    fine = fine-front xs ys (λ s m. subst (λ (zs : List Line). (fairs s zs [] ≡ true) × (rooteds s zs 0 ≡ true)) q (fair-heard x s))
+    fine : (s : ℕ) → s < streamTotal → MayCome s xs []
+    fine = fine-front xs ys (λ s m. subst (λ (zs : List Line). MayCome s zs []) q (may-come x s))

@@ -8,7 +8,8 @@ use Rattle.octets.specs.Runs.{Bytes}
 use Rattle.octets.proofs.Runs.{to-areBytes}
 use Rattle.ledger.specs.Choice.{_⇒_∣_}
 use Rattle.paper.specs.Base.{fresh}
-use Rattle.table_image.specs.Layout.{imageOf, soundImage}
+use Rattle.paper.specs.Step.{roomSize}
+use Rattle.table_image.specs.Layout.{imageOf, soundImage, imageSize}
 use Rattle.call_outcomes.specs.Leaving.{callMade}
 use Rattle.call_outcomes.specs.Fresh.{freshOf}
 use Rattle.fates_book.specs.declared.Line.{Line}
@@ -23,7 +24,7 @@ use Rattle.fates.specs.Told.{Told, linesBy}
 pub told-next : (img register r : List ℕ) → Told img register → Bytes r → Told (callMade img r .image) (enteredAll (linesBy r (callMade img r)) register)
 told-next img register r w b =
     let x : Harness = w .harness in
-    let c : Lending = record { bytes = r; areBytes = to-areBytes r b; room = replicate 128 0 } in
+    let c : Lending = record { bytes = r; areBytes = to-areBytes r b; room = replicate roomSize 0 } in
     rw (w .table, w .entered) (record {
       harness = andThen x c;
       table = sym (image-more x c);
@@ -34,7 +35,7 @@ told-next img register r w b =
 pub told-sound : (img register : List ℕ) → Told img register → soundImage img ≡ true
 told-sound img register w = ap soundImage (w .table) ∙ stays-lent (w .harness)
 
-zeros-taken : freshOf (replicate 760 0) .number ≡ 0
+zeros-taken : freshOf (replicate imageSize 0) .number ≡ 0
 unfolding freshOf _⇒_∣_
 zeros-taken = refl
 
@@ -44,4 +45,4 @@ unfolding imageAfter heard lines enteredAll
 told-first = record { harness = first; table = sym (fresh-taken (first .lent) (first .taken)); entered = refl }
   where
     first : Harness
-    first = record { lent = replicate 760 0; taken = zeros-taken; calls = [] }
+    first = record { lent = replicate imageSize 0; taken = zeros-taken; calls = [] }

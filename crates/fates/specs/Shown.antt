@@ -5,6 +5,7 @@ use lib.ListN.{length}
 use Rattle.ledger.specs.Choice.{both}
 use Rattle.ledger.specs.Tally.{sumOf, firstOf}
 use lib.Dec.{eqb}
+use Rattle.paper.specs.Base.{streamTotal}
 use Rattle.fates_book.specs.declared.End.{End}
 use Rattle.fates_book.specs.declared.End.the-variants.{Accepted, Denied, Withdrawn, Dropped}
 use Rattle.fates_book.specs.Book.{Indication, Opening, isStillOpen, openCount, newest, countOf, tallies, overStreams}
@@ -28,13 +29,13 @@ indicationShown s n e b =
 
 -- count k over all openings of all streams
 abbrev pub totalOf : ℕ → List Answered → ℕ
-totalOf k h = overStreams 16 (λ s. sumOf (λ (n : ℕ). n) (tallies k s (lines h) []))
+totalOf k h = overStreams streamTotal (λ s. sumOf (λ (n : ℕ). n) (tallies k s (lines h) []))
 
 -- the last line
 unfoldable pub totalShown : List Answered → List ℕ
 totalShown h =
-    wordTotal ++ spacedNumber (overStreams 16 (λ s. length (fates s h)))
+    wordTotal ++ spacedNumber (overStreams streamTotal (λ s. length (fates s h)))
     ++ spacedNumber (totalOf 0 h)
     ++ spacedNumber (totalOf (countOf Accepted) h) ++ spacedNumber (totalOf (countOf Denied) h)
     ++ spacedNumber (totalOf (countOf Withdrawn) h) ++ spacedNumber (totalOf (countOf Dropped) h)
-    ++ spacedNumber (overStreams 16 (λ s. sumOf openCount (fates s h))) ++ (10 ∷ [])
+    ++ spacedNumber (overStreams streamTotal (λ s. sumOf openCount (fates s h))) ++ (10 ∷ [])

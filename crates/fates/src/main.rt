@@ -1,15 +1,5 @@
 // Reads records on standard input and prints what became of each call that rang in: see docs/FATES.md.
-ghost use mathlib.Core.Path.{_≡_};
-ghost use mathlib.Core.Bool.{false};
-ghost use Prim.Native.Nat.{_+_, _<_, _≤_};
-ghost use lib.ListN.{length};
-ghost use Rattle.octets.specs.Runs.{paste};
-ghost use Rattle.fates_register.specs.Register.{enteredAll};
-ghost use Rattle.fates_report.specs.Report.{allText};
-ghost use Rattle.turns.specs.Turns.{callOn, afterCall, turnAfter, afterTurn, Fine, Ready};
-ghost use Rattle.call_outcomes.specs.Leaving.{callMade};
-ghost use Rattle.fates.specs.Told.{Told, linesBy};
-ghost use Rattle.fates.specs.Turns.{linesOn, textOn};
+ghost use Rattle.fates.specs.Turns.{CallRoom, CallTold, Standing, AtTurn, AtCall, Called, Turned, Kept};
 use turns::Turn;
 
 // One call: its lines are entered in the register, and their text goes to the output from a place on.
@@ -20,23 +10,18 @@ fn call_and_tell(
     out: &mut [u8],
     at: usize,
 ) -> usize
-    requires { ⌜ Told (now table) (now register) × (length (now register) ≡ 408) × (at + 20000 ≤ length (now out)) ⌝ }
-    ensures { λ r. ⌜ Told (now (table .exit)) (now (register .exit)) × (now (table .exit) ≡ callMade (now (table .entry)) (now (bytes .entry)) .image) × (now (register .exit) ≡ enteredAll (linesBy (now (bytes .entry)) (callMade (now (table .entry)) (now (bytes .entry)))) (now (register .entry))) ⌝ }
-    ensures { λ r. ⌜ now (out .exit) ≡ paste (now (out .entry)) at (allText (linesBy (now (bytes .entry)) (callMade (now (table .entry)) (now (bytes .entry)))) (now (register .entry))) ⌝ }
-    ensures { λ r. ⌜ (r ≡ at + length (allText (linesBy (now (bytes .entry)) (callMade (now (table .entry)) (now (bytes .entry)))) (now (register .entry)))) × (r ≤ at + 20000) ⌝ }
+    requires { ⌜ CallRoom (now table) (now register) (now out) at ⌝ }
+    ensures { λ r. ⌜ CallTold (now (table .entry)) (now (register .entry)) (now (bytes .entry)) (now (out .entry)) at (now (table .exit)) (now (register .exit)) (now (out .exit)) r ⌝ }
 {
-    let mut room = [0u8; 128];
+    let mut room = [0u8; paper::ROOM_SIZE];
     let answer = call_engine::call_sound(table, bytes, &mut room);
     fates_report::tell_call(register, out, at, bytes, answer, &room)
 }
 
 // The call on what is not read yet, and its text behind what is printed already.
 fn called(table: &mut [u8], register: &mut [u64], input: &[u8], output: &mut [u8], t: Turn) -> Turn
-    requires { ⌜ Told (now table) (now register) × (length (now register) ≡ 408) × (length (now input) ≡ 65536) × (length (now output) ≡ 65536) × Ready t × (t .calls < 18446744073709551615) ⌝ }
-    // refused calls are not counted
-    ensures { λ r. ⌜ (r ≡ afterCall (now (input .entry)) (t .filled + length (textOn (now (table .entry)) (now (register .entry)) (now (input .entry)) t)) false t) × Fine r ⌝ }
-    ensures { λ r. ⌜ Told (now (table .exit)) (now (register .exit)) × (now (table .exit) ≡ callOn (now (table .entry)) (now (input .entry)) t .image) × (now (register .exit) ≡ enteredAll (linesOn (now (table .entry)) (now (input .entry)) t) (now (register .entry))) ⌝ }
-    ensures { λ r. ⌜ now (output .exit) ≡ paste (now (output .entry)) (t .filled) (textOn (now (table .entry)) (now (register .entry)) (now (input .entry)) t) ⌝ }
+    requires { ⌜ AtCall (now table) (now register) (now input) (now output) t ⌝ }
+    ensures { λ r. ⌜ Called (now (table .entry)) (now (register .entry)) (now (input .entry)) (now (output .entry)) t (now (table .exit)) (now (register .exit)) (now (output .exit)) r ⌝ }
 {
     let start = t.start;
     let end = t.end;
@@ -47,10 +32,8 @@ fn called(table: &mut [u8], register: &mut [u64], input: &[u8], output: &mut [u8
 // A call is made where a whole record may stand in the input, or no more is to come. Reading ends behind the last record, and
 // at one that is cut or of an unknown kind.
 fn turned(table: &mut [u8], register: &mut [u64], input: &[u8], output: &mut [u8], t: Turn) -> Turn
-    requires { ⌜ Told (now table) (now register) × (length (now register) ≡ 408) × (length (now input) ≡ 65536) × (length (now output) ≡ 65536) × Ready t ⌝ }
-    ensures { λ r. ⌜ (r ≡ turnAfter (now (input .entry)) (textOn (now (table .entry)) (now (register .entry)) (now (input .entry)) t) false t) × Fine r ⌝ }
-    ensures { λ r. ⌜ Told (now (table .exit)) (now (register .exit)) × (now (table .exit) ≡ afterTurn t (now (table .entry)) (callOn (now (table .entry)) (now (input .entry)) t .image)) × (now (register .exit) ≡ afterTurn t (now (register .entry)) (enteredAll (linesOn (now (table .entry)) (now (input .entry)) t) (now (register .entry)))) ⌝ }
-    ensures { λ r. ⌜ now (output .exit) ≡ afterTurn t (now (output .entry)) (paste (now (output .entry)) (t .filled) (textOn (now (table .entry)) (now (register .entry)) (now (input .entry)) t)) ⌝ }
+    requires { ⌜ AtTurn (now table) (now register) (now input) (now output) t ⌝ }
+    ensures { λ r. ⌜ Turned (now (table .entry)) (now (register .entry)) (now (input .entry)) (now (output .entry)) t (now (table .exit)) (now (register .exit)) (now (output .exit)) r ⌝ }
 {
     if turns::waits(t) {
         return t;
@@ -68,8 +51,8 @@ fn one_turn(
     output: &mut [u8],
     t: Turn,
 ) -> Turn
-    requires { ⌜ Told (now table) (now register) × (length (now register) ≡ 408) × (length (now input) ≡ 65536) × (length (now output) ≡ 65536) × Fine t ⌝ }
-    ensures { λ r. ⌜ Fine r × Told (now (table .exit)) (now (register .exit)) ⌝ }
+    requires { ⌜ Standing (now table) (now register) (now input) (now output) t ⌝ }
+    ensures { λ r. ⌜ Kept (now (table .exit)) (now (register .exit)) r ⌝ }
 {
     let a = turns::fed(input, t);
     if !a.going {
@@ -82,7 +65,7 @@ fn one_turn(
     turned(table, register, input, output, b)
 }
 
-// Turn after turn, until one says to stop.
+// Turn after turn, until one says to stop; no more than 64 bits count.
 fn run(
     table: &mut [u8],
     register: &mut [u64],
@@ -90,11 +73,11 @@ fn run(
     output: &mut [u8],
     t0: Turn,
 ) -> Turn
-    requires { ⌜ Told (now table) (now register) × (length (now register) ≡ 408) × (length (now input) ≡ 65536) × (length (now output) ≡ 65536) × Fine t0 ⌝ }
-    ensures { λ r. ⌜ Fine r × Told (now (table .exit)) (now (register .exit)) ⌝ }
+    requires { ⌜ Standing (now table) (now register) (now input) (now output) t0 ⌝ }
+    ensures { λ r. ⌜ Kept (now (table .exit)) (now (register .exit)) r ⌝ }
 {
     let mut t = t0;
-    let mut left: u64 = 0xffffffffffffffff;
+    let mut left = turns::MOST_CALLS;
     while 0 < left {
         if !t.going {
             return t;
@@ -108,9 +91,9 @@ fn run(
 // Starts from a fresh table and a blank register, with the first line filled in. Where reading or writing failed there is no
 // last line, so that what was printed is not taken for the whole.
 fn main() {
-    let mut table = [0u8; 760];
+    let mut table = [0u8; table_image::IMAGE_SIZE];
     table_image::make_fresh(&mut table);
-    let mut register = [0u64; 408];
+    let mut register = [0u64; fates_register::REGISTER_SIZE];
     let mut input = io::large_buffer();
     let mut output = io::large_buffer();
     let title = fates_report::put_heading(&mut output, 0);

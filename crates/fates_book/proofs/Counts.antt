@@ -15,18 +15,21 @@ use Rattle.fates_book.specs.declared.Line.{Line}
 use Rattle.fates_book.specs.declared.Line.the-variants.{Began, Came, Went, Given, Nothing}
 use Rattle.fates_book.specs.Lines.{telling}
 use Rattle.fates_book.proofs.Telling.{tally-telling}
-use Rattle.fates_book.specs.Book.{Fate, stillOpen, met, Opening, isStillOpen, countOf, openOf, mark, noted, newest, onNewest, post, posts, bump, tallyLine, tallies, countsAs, countIn, hasMet, howMany, openCount, leftOpen}
+use Rattle.fates_book.specs.Book.{Fate, stillOpen, met, Opening, isStillOpen, countOf, openOf, mark, noted, newest, onNewest, post}
+use Rattle.fates_book.specs.Book.{posts, bump, tallyLine, tallies, countsAs, countIn, hasMet, howMany, openCount, leftOpen}
 use Rattle.ledger.proofs.Tallies.{both-of}
 use Rattle.ledger.proofs.Sums.{pick-to}
 use Rattle.fates_book.proofs.Shades.{shade, fair, fairs, open-post}
 
 -- ---- one opening: exactly one of the four fates, or open
-pub balance : (o : Opening) → countIn 0 o ≡ countIn 1 o + countIn 2 o + countIn 3 o + countIn 4 o + length (openOf o)
+balance : (o : Opening) → countIn 0 o ≡ countIn 1 o + countIn 2 o + countIn 3 o + countIn 4 o + length (openOf o)
 balance [] = refl
 balance (e ∷ o) = go (e .fate) (balance o)
   where
     go : (q : Fate) → countIn 0 o ≡ countIn 1 o + countIn 2 o + countIn 3 o + countIn 4 o + length (openOf o)
-        → countsAs 0 q + countIn 0 o ≡ countsAs 1 q + countIn 1 o + (countsAs 2 q + countIn 2 o) + (countsAs 3 q + countIn 3 o) + (countsAs 4 q + countIn 4 o) + length (pick (isStillOpen q) (e .number ∷ openOf o) (openOf o))
+        → countsAs 0 q + countIn 0 o
+        ≡ countsAs 1 q + countIn 1 o + (countsAs 2 q + countIn 2 o) + (countsAs 3 q + countIn 3 o) + (countsAs 4 q + countIn 4 o)
+        + length (pick (isStillOpen q) (e .number ∷ openOf o) (openOf o))
     go stillOpen r = omega arith
     go (met Accepted) r = omega arith
     go (met Denied) r = omega arith
@@ -46,7 +49,8 @@ count-mark k n f (e ∷ o) h = go (e .number) (e .fate) h (count-mark k n f o)
     go m (met g) h r = omega (arith, r h)
     go m stillOpen h r = at-b (eqb n m) h
       where
-        at-b : (b : Bool) → 0 < oneIf b + occ n (openOf o) → countIn k (pick b (record { number = m; fate = met f } ∷ o) (record { number = m; fate = stillOpen } ∷ mark n f o)) ≡ oneIf (eqb k 0) + countIn k o + oneIf (eqb k (countOf f))
+        at-b : (b : Bool) → 0 < oneIf b + occ n (openOf o)
+            → countIn k (pick b (record { number = m; fate = met f } ∷ o) (record { number = m; fate = stillOpen } ∷ mark n f o)) ≡ oneIf (eqb k 0) + countIn k o + oneIf (eqb k (countOf f))
         at-b true h = omega arith
         at-b false h = omega (arith, r (omega arith))
 
@@ -92,7 +96,8 @@ count-post k s (Began i) b h = pick-to (map (countIn k)) (eqb s i) ([] ∷ b) b 
 count-post k s (Came i n) b h = pick-to (map (countIn k)) (eqb s i) (onNewest (noted n) b) b (count-front k (oneIf (eqb k 0)) (noted n) b (count-noted k n (newest b)))
 count-post k s (Went i n f) b h = go (eqb s i) h
   where
-    go : (q : Bool) → pick q (has n (openOf (newest b))) true ≡ true → map (countIn k) (pick q (onNewest (mark n f) b) b) ≡ pick q (bump (oneIf (eqb k (countOf f))) (map (countIn k) b)) (map (countIn k) b)
+    go : (q : Bool) → pick q (has n (openOf (newest b))) true ≡ true
+        → map (countIn k) (pick q (onNewest (mark n f) b) b) ≡ pick q (bump (oneIf (eqb k (countOf f))) (map (countIn k) b)) (map (countIn k) b)
     go true h = count-front k (oneIf (eqb k (countOf f))) (mark n f) b (count-mark k n f (newest b) (ltb-true 0 (occ n (openOf (newest b))) h))
     go false h = refl
 count-post k s (Given i g) b h = refl

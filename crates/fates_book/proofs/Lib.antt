@@ -1,3 +1,4 @@
+-- The lines of a history, by the stream that they are about and by the bytes that they are read from.
 pub mod Shades
 pub mod Telling
 pub mod Counts

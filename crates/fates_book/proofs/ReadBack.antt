@@ -27,12 +27,15 @@ use Rattle.fates_book.specs.declared.Line.the-variants.{Came, Went, Give
 use Rattle.fates_book.specs.Lines.{asker, parting, endLine, upLine, lineAt, recordsIn}
 use Rattle.fates_book.proofs.Said.{orderLine, replyLine, lineOf}
 use Rattle.octets.proofs.Numbers.{be32At-be32}
+use Rattle.paper.specs.RecordsIn.{messageSize}
+use Rattle.octets.specs.Blocks.{blockSize}
+use Rattle.paper.specs.Base.{addressSize}
 
 -- ---- records told apart
 
 -- the bytes behind an order: an address of a connect, none else
 abbrev behindSize : LineOrder → ℕ
-behindSize (lineOrder.Connect at) = 7
+behindSize (lineOrder.Connect at) = addressSize
 behindSize (lineOrder.Accept n) = 0
 behindSize (lineOrder.Disconnect n reason) = 0
 behindSize lineOrder.Reset = 0
@@ -42,7 +45,7 @@ behindSize lineOrder.ResetAnswer = 0
 abbrev pub Sized : Record → Type 0
 Sized (order i o called) = length called ≡ behindSize o
 Sized (flush i) = 0 ≤ 0
-Sized (up i r tail) = length (fieldsOf r) * 4 + length tail ≤ 96
+Sized (up i r tail) = length (fieldsOf r) * 4 + length tail ≤ blockSize
 
 abbrev pub AllSized : List Record → Type 0
 AllSized [] = 0 ≤ 0
@@ -65,7 +68,7 @@ told-order i lineOrder.Reset called rest h = record { kind = 114; others = _; fo
 told-order i lineOrder.ResetAnswer called rest h = record { kind = 115; others = _; form = refl; size = omega arith; some = refl }
 
 -- P or C
-kind-size : (b : Bool) → sizeOut (pick b 67 80) ≡ 99
+kind-size : (b : Bool) → sizeOut (pick b 67 80) ≡ messageSize
 unfolding sizeOut _⇒_∣_
 kind-size true = refl
 kind-size false = refl
@@ -74,7 +77,13 @@ told-record : (r : Record) (rest : List ℕ) → Sized r → Told r rest
 unfolding sizeOut _⇒_∣_
 told-record (order i o called) rest h = told-order i o called rest h
 told-record (flush i) rest h = record { kind = 70; others = _; form = refl; size = refl; some = refl }
-told-record (up i r tail) rest h = record { kind = pick (goesAsC r) 67 80; others = _; form = refl; size = kind-size (goesAsC r) ∙ sym (up-size i r tail h); some = ap (λ (n : ℕ). eqb n 0) (kind-size (goesAsC r)) }
+told-record (up i r tail) rest h = record {
+  kind = pick (goesAsC r) 67 80;
+  others = _;
+  form = refl;
+  size = kind-size (goesAsC r) ∙ sym (up-size i r tail h);
+  some = ap (λ (n : ℕ). eqb n 0) (kind-size (goesAsC r));
+}
 
 -- a record takes a byte at least
 enough-bytes : (rs : List Record) → AllSized rs → length rs ≤ length (allBytes rs)

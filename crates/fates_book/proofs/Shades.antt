@@ -15,6 +15,7 @@ use Rattle.fates_book.specs.declared.Line.{Line}
 use Rattle.fates_book.specs.declared.Line.the-variants.{Began, Came, Went, Given, Nothing}
 use Rattle.fates_book.specs.Book.{grantLine, grantBy, Fate, stillOpen, met, Opening, isStillOpen, openOf, mark, noted, newest, earlier, onNewest, post, posts, leftOpen, tallies, tallyLine}
 use Rattle.ledger.proofs.Sums.{pick-to}
+use Rattle.paper.specs.Saps.{mostOpen}
 
 -- the open numbers of stream s after a line
 abbrev pub shade : ℕ → Line → List ℕ → List ℕ
@@ -32,7 +33,7 @@ shades s (y ∷ ys) w = shades s ys (shade s y w)
 -- number meets its end
 abbrev pub fair : ℕ → Line → List ℕ → Bool
 fair s (Began i) w = pick (eqb s i) (eqb (length w) 0) true
-fair s (Came i n) w = pick (eqb s i) (ltb (length w) 8) true
+fair s (Came i n) w = pick (eqb s i) (ltb (length w) mostOpen) true
 fair s (Went i n f) w = pick (eqb s i) (has n w) true
 fair s (Given i g) w = true
 fair s Nothing w = true
@@ -168,7 +169,8 @@ pub record Taken (s i : ℕ) (ys : List Line) (w v : List ℕ) : Type 0 where
   pub rootedly : (k : ℕ) → rooteds s ys k ≡ true
   pub opens : (k : ℕ) → openingsIn s ys k ≡ k
 
-taken-more : (s i n : ℕ) (f : End) (y : Line) (ys : List Line) (w u v : List ℕ) → y ≡ Went i n f → pick (eqb s i) (without n w) w ≡ u → pick (eqb s i) (has n w) true ≡ true → Taken s i ys u v → Taken s i (y ∷ ys) w v
+taken-more : (s i n : ℕ) (f : End) (y : Line) (ys : List Line) (w u v : List ℕ) → y ≡ Went i n f → pick (eqb s i) (without n w) w ≡ u
+    → pick (eqb s i) (has n w) true ≡ true → Taken s i ys u v → Taken s i (y ∷ ys) w v
 taken-more s i n f y ys w u v d e h r = record {
   left = ap (λ (y : Line). shades s ys (shade s y w)) d ∙ ap (shades s ys) e ∙ r .left;
   fairly = to-both _ _ (ap (λ (y : Line). fair s y w) d ∙ h) (ap (λ (y : Line). fairs s ys (shade s y w)) d ∙ ap (fairs s ys) e ∙ r .fairly);

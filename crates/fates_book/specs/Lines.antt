@@ -1,19 +1,19 @@
 -- What one call says of connection indications: read from the bytes lent, the stream opened and the bytes written.
-use Prim.Native.Nat.{ℕ, zero, suc}
+use Prim.Native.Nat.{ℕ, zero, suc, _+_}
 use mathlib.Core.List.{List, [], _∷_, _++_, map}
 use mathlib.Core.Bool.{Bool, true}
 use lib.ListN.{length, getD, drop}
 use lib.Dec.{eqb}
 use Rattle.ledger.specs.Choice.{both, _⇒_∣_}
 use Rattle.octets.specs.Numbers.{be32At}
-use Rattle.paper.specs.RecordsIn.{inputOf}
+use Rattle.paper.specs.RecordsIn.{inputOf, headSize}
 use Rattle.paper.specs.declared.Input.{Input}
 use Rattle.paper.specs.declared.Input.the-variants as input
 use Rattle.fates_book.specs.declared.End.{End}
 use Rattle.fates_book.specs.declared.End.the-variants.{Accepted, Denied, Withdrawn, Dropped}
 use Rattle.fates_book.specs.declared.Line.{Line}
 use Rattle.fates_book.specs.declared.Line.the-variants.{Began, Came, Went, Given, Nothing}
-use Rattle.paper.specs.RecordsOut.{isMessage, sizeOut}
+use Rattle.paper.specs.RecordsOut.{isMessage, sizeOut, startSize}
 
 -- ---- the record lent
 
@@ -56,15 +56,15 @@ endLine i n e = eqb n 0 ⇒ Nothing ∣ Went i n e
 -- of the messages up: BIND_ACK, CONNECT_IND, DISCONNECT_IND
 unfoldable pub upLine : List ℕ → Line
 upLine b =
-    eqb (be32At b 3) 0x04 ⇒ Given (getD b 1 0) (be32At b 19)
-    ∣ eqb (be32At b 3) 0x0e ⇒ Came (getD b 1 0) (be32At b 7)
-    ∣ eqb (be32At b 3) 0x14 ⇒ endLine (getD b 1 0) (be32At b 15) Withdrawn
+    eqb (be32At b headSize) 0x04 ⇒ Given (getD b 1 0) (be32At b (headSize + 16))
+    ∣ eqb (be32At b headSize) 0x0e ⇒ Came (getD b 1 0) (be32At b (headSize + 4))
+    ∣ eqb (be32At b headSize) 0x14 ⇒ endLine (getD b 1 0) (be32At b (headSize + 12)) Withdrawn
     ∣ Nothing
 
 unfoldable pub lineAt : Input → List ℕ → Line
 lineAt q b =
-    eqb (getD b 0 0) 97 ⇒ Went (asker q) (be32At b 2) Accepted  -- a
-    ∣ eqb (getD b 0 0) 100 ⇒ endLine (getD b 1 0) (be32At b 2) (parting q)  -- d
+    eqb (getD b 0 0) 97 ⇒ Went (asker q) (be32At b startSize) Accepted  -- a
+    ∣ eqb (getD b 0 0) 100 ⇒ endLine (getD b 1 0) (be32At b startSize) (parting q)  -- d
     ∣ isMessage (getD b 0 0) ⇒ upLine b
     ∣ Nothing
 

@@ -1,7 +1,16 @@
 // What the records of a history say of connection indications, line by line. What each means stands in specs/.
 ghost use mathlib.Core.Path.{_≡_};
 ghost use Rattle.fates_book.specs.Lines.{asker, parting, endLine, upLine, lineAt};
+use paper::HEAD_SIZE;
 use paper::Input;
+use paper::START_SIZE;
+
+// In the record of a message up: the count that BIND_ACK grants, the number of CONNECT_IND, that of DISCONNECT_IND.
+const GRANTED_AT: usize = HEAD_SIZE + 16;
+
+const NUMBER_AT: usize = HEAD_SIZE + 4;
+
+const ENDED_AT: usize = HEAD_SIZE + 12;
 
 // How an indication ends: accepted, denied, withdrawn by the line, dropped at close.
 pub enum End {
@@ -24,7 +33,7 @@ pub enum Line {
 }
 
 // The stream that a message came from.
-pub fn asker(q: Input) -> u8
+fn asker(q: Input) -> u8
     ensures { λ r. ⌜ r ≡ asker q ⌝ }
 {
     match q {
@@ -44,7 +53,7 @@ pub fn asker(q: Input) -> u8
 }
 
 // What an order d with a number means.
-pub fn parting(q: Input) -> End
+fn parting(q: Input) -> End
     ensures { λ r. ⌜ r ≡ parting q ⌝ }
 {
     match q {
@@ -78,15 +87,15 @@ fn up_line(b: &[u8]) -> Line
     ensures { λ r. ⌜ r ≡ upLine (now (b .entry)) ⌝ }
 {
     let i = octets::byte_at(b, 1);
-    let code = octets::number32_at(b, 3);
+    let code = octets::number32_at(b, HEAD_SIZE);
     if code == 0x04 {
-        return Line::Given(i, octets::number32_at(b, 19));
+        return Line::Given(i, octets::number32_at(b, GRANTED_AT));
     }
     if code == 0x0e {
-        return Line::Came(i, octets::number32_at(b, 7));
+        return Line::Came(i, octets::number32_at(b, NUMBER_AT));
     }
     if code == 0x14 {
-        return end_line(i, octets::number32_at(b, 15), End::Withdrawn);
+        return end_line(i, octets::number32_at(b, ENDED_AT), End::Withdrawn);
     }
     Line::Nothing
 }
@@ -98,7 +107,7 @@ pub fn line_at(q: Input, b: &[u8]) -> Line
 {
     let kind = octets::byte_at(b, 0);
     let named = octets::byte_at(b, 1);
-    let n = octets::number32_at(b, 2);
+    let n = octets::number32_at(b, START_SIZE);
     if kind == b'a' {
         let from = asker(q);
         return Line::Went(from, n, End::Accepted);

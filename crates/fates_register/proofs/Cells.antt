@@ -1,5 +1,5 @@
--- The cells of a flat list after some of them were changed.
-use Prim.Native.Nat.{ℕ, zero, suc, _+_, _*_, _≤_, _<_}
+-- A cell that was changed has what was put there, and every other cell what it had.
+use Prim.Native.Nat.{ℕ, zero, suc, _+_, _≤_, _<_}
 use mathlib.Core.Path.{_≡_, refl, ap, _∙_}
 use mathlib.Core.Logic.{_≢_}
 use mathlib.Core.List.{List}
@@ -10,7 +10,9 @@ use native.Mathlib.Omega.{arith}
 use borrow.Author.Tests.{ne-eqb}
 use Rattle.ledger.specs.Tally.{oneIf}
 use Rattle.ledger.proofs.Tallies.{skip, one-same, one-other, by-same}
+use Rattle.paper.specs.Base.{streamTotal}
 use Rattle.fates_register.specs.Register.{oneMore, raised, counting, closeUp, cleared}
+use Rattle.fates_register.specs.Register.{countTotal, totalsAt, registerSize, pageOf, mostCount}
 
 -- a cell by another name
 pub cell : (l : List ℕ) (m n : ℕ) → m ≡ n → getD l m 0 ≡ getD l n 0
@@ -18,19 +20,19 @@ cell l m n e = ap (λ (k : ℕ). getD l k 0) e
 
 -- ---- a count goes up
 
-one-more : (n : ℕ) → n < 18446744073709551615 → oneMore n ≡ n + 1
+one-more : (n : ℕ) → n < mostCount → oneMore n ≡ n + 1
 unfolding oneMore
-one-more n h = skip _ _ _ (ne-eqb n 18446744073709551615 (omega arith))
+one-more n h = skip _ _ _ (ne-eqb n mostCount (omega arith))
 
-pub raised-length : (c : ℕ) (l : List ℕ) → length (raised c l) ≡ length l
+raised-length : (c : ℕ) (l : List ℕ) → length (raised c l) ≡ length l
 unfolding raised
 raised-length c l = length-set l c _
 
-pub raised-same : (c : ℕ) (l : List ℕ) → c < length l → getD l c 0 < 18446744073709551615 → getD (raised c l) c 0 ≡ getD l c 0 + 1
+raised-same : (c : ℕ) (l : List ℕ) → c < length l → getD l c 0 < mostCount → getD (raised c l) c 0 ≡ getD l c 0 + 1
 unfolding raised
 raised-same c l h m = getD-set-same l c _ 0 h ∙ one-more (getD l c 0) m
 
-pub raised-other : (c : ℕ) (l : List ℕ) (j : ℕ) → j ≢ c → getD (raised c l) j 0 ≡ getD l j 0
+raised-other : (c : ℕ) (l : List ℕ) (j : ℕ) → j ≢ c → getD (raised c l) j 0 ≡ getD l j 0
 unfolding raised
 raised-other c l j h = getD-set-other l c j _ 0 h
 
@@ -90,28 +92,29 @@ closed-in (suc k) c l j m h d =
 -- what a register becomes where count c of stream i and of the whole table go up, and nothing else is touched
 module _ (l : List ℕ) (i c : ℕ) where
   pub counting-length : length (counting i c l) ≡ length l
-  counting-length = raised-length (384 + c) (raised (i * 24 + c) l) ∙ raised-length (i * 24 + c) l
+  counting-length = raised-length (totalsAt + c) (raised (pageOf i + c) l) ∙ raised-length (pageOf i + c) l
 
-  pub counting-other : (j : ℕ) → j ≢ i * 24 + c → j ≢ 384 + c → getD (counting i c l) j 0 ≡ getD l j 0
-  counting-other j p q = raised-other (384 + c) (raised (i * 24 + c) l) j q ∙ raised-other (i * 24 + c) l j p
+  pub counting-other : (j : ℕ) → j ≢ pageOf i + c → j ≢ totalsAt + c → getD (counting i c l) j 0 ≡ getD l j 0
+  counting-other j p q = raised-other (totalsAt + c) (raised (pageOf i + c) l) j q ∙ raised-other (pageOf i + c) l j p
 
-  pub counting-stream : i < 16 → c < 6 → length l ≡ 408 → (a : ℕ) → a < 6 → getD l (i * 24 + a) 0 < 18446744073709551615
-      → getD (counting i c l) (i * 24 + a) 0 ≡ getD l (i * 24 + a) 0 + oneIf (eqb a c)
+  pub counting-stream : i < streamTotal → c < countTotal → length l ≡ registerSize → (a : ℕ) → a < countTotal → getD l (pageOf i + a) 0 < mostCount
+      → getD (counting i c l) (pageOf i + a) 0 ≡ getD l (pageOf i + a) 0 + oneIf (eqb a c)
   counting-stream h d z a n m =
       by-same a c
       (λ e. rw (one-same a c e) (
-      raised-other (384 + c) (raised (i * 24 + c) l) (i * 24 + a) (omega arith)
-      ∙ cell (raised (i * 24 + c) l) (i * 24 + a) (i * 24 + c) (omega arith)
-      ∙ raised-same (i * 24 + c) l (omega arith) (omega (arith, cell l (i * 24 + a) (i * 24 + c) (omega arith)))
-      ∙ omega (arith, cell l (i * 24 + a) (i * 24 + c) (omega arith))))
-      (λ e. rw (one-other a c e) (counting-other (i * 24 + a) (omega arith) (omega arith) ∙ omega arith))
+      raised-other (totalsAt + c) (raised (pageOf i + c) l) (pageOf i + a) (omega arith)
+      ∙ cell (raised (pageOf i + c) l) (pageOf i + a) (pageOf i + c) (omega arith)
+      ∙ raised-same (pageOf i + c) l (omega arith) (omega (arith, cell l (pageOf i + a) (pageOf i + c) (omega arith)))
+      ∙ omega (arith, cell l (pageOf i + a) (pageOf i + c) (omega arith))))
+      (λ e. rw (one-other a c e) (counting-other (pageOf i + a) (omega arith) (omega arith) ∙ omega arith))
 
-  pub counting-table : i < 16 → c < 6 → length l ≡ 408 → (a : ℕ) → a < 6 → getD l (384 + a) 0 < 18446744073709551615
-      → getD (counting i c l) (384 + a) 0 ≡ getD l (384 + a) 0 + oneIf (eqb a c)
+  pub counting-table : i < streamTotal → c < countTotal → length l ≡ registerSize → (a : ℕ) → a < countTotal → getD l (totalsAt + a) 0 < mostCount
+      → getD (counting i c l) (totalsAt + a) 0 ≡ getD l (totalsAt + a) 0 + oneIf (eqb a c)
   counting-table h d z a n m =
       by-same a c
       (λ e. rw (one-same a c e) (
-      cell (counting i c l) (384 + a) (384 + c) (omega arith)
-      ∙ raised-same (384 + c) (raised (i * 24 + c) l) (omega (arith, raised-length (i * 24 + c) l)) (omega (arith, raised-other (i * 24 + c) l (384 + c) (omega arith), cell l (384 + a) (384 + c) (omega arith)))
-      ∙ omega (arith, raised-other (i * 24 + c) l (384 + c) (omega arith), cell l (384 + a) (384 + c) (omega arith))))
-      (λ e. rw (one-other a c e) (counting-other (384 + a) (omega arith) (omega arith) ∙ omega arith))
+      cell (counting i c l) (totalsAt + a) (totalsAt + c) (omega arith)
+      ∙ raised-same (totalsAt + c) (raised (pageOf i + c) l) (omega (arith, raised-length (pageOf i + c) l))
+      (omega (arith, raised-other (pageOf i + c) l (totalsAt + c) (omega arith), cell l (totalsAt + a) (totalsAt + c) (omega arith)))
+      ∙ omega (arith, raised-other (pageOf i + c) l (totalsAt + c) (omega arith), cell l (totalsAt + a) (totalsAt + c) (omega arith))))
+      (λ e. rw (one-other a c e) (counting-other (totalsAt + a) (omega arith) (omega arith) ∙ omega arith))

@@ -42,7 +42,8 @@ places-noted n p [] = ap (λ (k : ℕ). k ∷ n ∷ []) (omega arith)
 places-noted n p (x ∷ o) = go (isStillOpen (x .fate)) (places-noted n (suc p) o ∙ ap (λ (k : ℕ). placesFrom (suc p) o ++ (k ∷ n ∷ [])) (omega arith))
   where
     go : (b : Bool) → placesFrom (suc p) (noted n o) ≡ placesFrom (suc p) o ++ ((p + suc (length o)) ∷ n ∷ [])
-        → pick b (p ∷ x .number ∷ placesFrom (suc p) (noted n o)) (placesFrom (suc p) (noted n o)) ≡ pick b (p ∷ x .number ∷ placesFrom (suc p) o) (placesFrom (suc p) o) ++ ((p + suc (length o)) ∷ n ∷ [])
+        → pick b (p ∷ x .number ∷ placesFrom (suc p) (noted n o)) (placesFrom (suc p) (noted n o))
+        ≡ pick b (p ∷ x .number ∷ placesFrom (suc p) o) (placesFrom (suc p) o) ++ ((p + suc (length o)) ∷ n ∷ [])
     go true r = ap (λ (v : List ℕ). p ∷ x .number ∷ v) r
     go false r = r
 
@@ -97,7 +98,8 @@ ended-past n m e f o o′ d k r = record {
 }
 
 -- the first is still open, with another number
-ended-later : (n m : ℕ) (e : End) (o o′ : Opening) (d k : ℕ) → Ended n e o o′ d k → Ended n e (record { number = m; fate = stillOpen } ∷ o) (record { number = m; fate = stillOpen } ∷ o′) (suc (suc d)) (suc k)
+ended-later : (n m : ℕ) (e : End) (o o′ : Opening) (d k : ℕ) → Ended n e o o′ d k
+    → Ended n e (record { number = m; fate = stillOpen } ∷ o) (record { number = m; fate = stillOpen } ∷ o′) (suc (suc d)) (suc k)
 ended-later n m e o o′ d k r = record {
   less = omega (arith, r .less);
   inside = omega (arith, r .inside);
@@ -124,11 +126,13 @@ ended n e [] h = absurd (omega arith)
 ended n e (x ∷ o) h = go (x .number) (x .fate) h (ended n e o)
   where
     go : (m : ℕ) (q : Fate) → 0 < occ n (openOf (record { number = m; fate = q } ∷ o)) → (0 < occ n (openOf o) → Ended n e o (mark n e o) (spot n o) (firstOf (isMarked n) o))
-        → Ended n e (record { number = m; fate = q } ∷ o) (mark n e (record { number = m; fate = q } ∷ o)) (spot n (record { number = m; fate = q } ∷ o)) (firstOf (isMarked n) (record { number = m; fate = q } ∷ o))
+        → Ended n e (record { number = m; fate = q } ∷ o) (mark n e (record { number = m; fate = q } ∷ o)) (spot n (record { number = m; fate = q } ∷ o))
+        (firstOf (isMarked n) (record { number = m; fate = q } ∷ o))
     go m (met f) h r = ended-past n m e f o (mark n e o) (spot n o) (firstOf (isMarked n) o) (r h)
     go m stillOpen h r = at-b (eqb n m) refl h
       where
         at-b : (b : Bool) → eqb n m ≡ b → 0 < oneIf b + occ n (openOf o)
-            → Ended n e (record { number = m; fate = stillOpen } ∷ o) (pick b (record { number = m; fate = met e } ∷ o) (record { number = m; fate = stillOpen } ∷ mark n e o)) (pick b 0 (suc (suc (spot n o)))) (pick b 0 (suc (firstOf (isMarked n) o)))
+            → Ended n e (record { number = m; fate = stillOpen } ∷ o)
+            (pick b (record { number = m; fate = met e } ∷ o) (record { number = m; fate = stillOpen } ∷ mark n e o)) (pick b 0 (suc (suc (spot n o)))) (pick b 0 (suc (firstOf (isMarked n) o)))
         at-b true q h = ended-first n m e o (eqb-true n m q)
         at-b false q h = ended-later n m e o (mark n e o) (spot n o) (firstOf (isMarked n) o) (r (omega arith))

@@ -14,6 +14,7 @@ use Rattle.ledger.proofs.Tallies.{skip, both-none, hold, by-same, by-order}
 use Rattle.ledger.proofs.Lists.{tail-at}
 use Rattle.fates_book.specs.Book.{Opening, isStillOpen, openOf, openCount}
 use Rattle.fates_register.specs.Register.{freeFrom, findFrom, closeUp}
+use Rattle.fates_register.specs.Register.{openSize, rowSize}
 use Rattle.fates_register.proofs.Cells.{cell, closed-before, closed-in, closed-behind}
 use Rattle.fates_register.proofs.Places.{placesFrom, spot}
 
@@ -21,8 +22,8 @@ use Rattle.fates_register.proofs.Places.{placesFrom, spot}
 pub record Reads (l : List ℕ) (c w : ℕ) (v : List ℕ) : Type 0 where
   pub cells : (j : ℕ) → j < w → getD l (c + j) 0 ≡ getD v j 0
 
--- the first 16 of 18 cells
-pub narrower : (l : List ℕ) (c : ℕ) (v : List ℕ) → Reads l c 18 v → Reads l c 16 v
+-- without the two cells behind the places
+pub narrower : (l : List ℕ) (c : ℕ) (v : List ℕ) → Reads l c rowSize v → Reads l c openSize v
 narrower l c v r = record { cells = λ j h. r .cells j (omega arith) }
 
 first-cell : (l : List ℕ) (c w : ℕ) (v : List ℕ) → Reads l c w v → 0 < w → getD l c 0 ≡ getD v 0 0
@@ -87,7 +88,8 @@ find-at l n (x ∷ o) k c p z h f r = go k (isStillOpen (x .fate)) h f r (λ k c
     go (suc k) true h f r i = at-b (eqb n (x .number)) refl f
       where
         at-b : (b : Bool) → eqb n (x .number) ≡ b → 0 < oneIf b + occ n (openOf o) → findFrom (suc k) c n l ≡ c + pick b 0 (suc (suc (spot n o)))
-        at-b true q f = find-here k c n l (omega (arith, first-cell l c (suc k + suc k) (p ∷ x .number ∷ placesFrom (suc p) o) r (omega arith))) (second-cell l c (suc k + suc k) (p ∷ x .number ∷ placesFrom (suc p) o) r (omega arith) ∙ sym (eqb-true n (x .number) q)) ∙ omega arith
+        at-b true q f = find-here k c n l (omega (arith, first-cell l c (suc k + suc k) (p ∷ x .number ∷ placesFrom (suc p) o) r (omega arith)))
+            (second-cell l c (suc k + suc k) (p ∷ x .number ∷ placesFrom (suc p) o) r (omega arith) ∙ sym (eqb-true n (x .number) q)) ∙ omega arith
         at-b false q f = find-next k c n l (λ e. eqb-false n (x .number) q (sym e ∙ second-cell l c (suc k + suc k) (p ∷ x .number ∷ placesFrom (suc p) o) r (omega arith)))
             ∙ i k (c + 2) (omega arith) (omega arith) (next-cells l c k p (x .number) (placesFrom (suc p) o) r)
             ∙ omega arith
@@ -106,24 +108,29 @@ reads-more l c w v a b r h z = record { cells = at }
     at : (j : ℕ) → j < w → getD (set (set l (c + length v) a) (c + length v + 1) b) (c + j) 0 ≡ getD (v ++ (a ∷ b ∷ [])) j 0
     at j d =
         by-order j (length v)
-        (λ e. getD-set-other (set l (c + length v) a) (c + length v + 1) (c + j) b 0 (omega arith) ∙ getD-set-other l (c + length v) (c + j) a 0 (omega arith) ∙ r .cells j d ∙ sym (List·getD-append v (a ∷ b ∷ []) 0 j e))
+        (λ e. getD-set-other (set l (c + length v) a) (c + length v + 1) (c + j) b 0 (omega arith) ∙ getD-set-other l (c + length v) (c + j) a 0 (omega arith)
+        ∙ r .cells j d ∙ sym (List·getD-append v (a ∷ b ∷ []) 0 j e))
         (λ e. by-same j (length v)
-        (λ q. getD-set-other (set l (c + length v) a) (c + length v + 1) (c + j) b 0 (omega arith) ∙ cell (set l (c + length v) a) (c + j) (c + length v) (omega arith) ∙ getD-set-same l (c + length v) a 0 (omega arith) ∙ sym (tail-at v (a ∷ b ∷ []) j 0 (omega arith)))
+        (λ q. getD-set-other (set l (c + length v) a) (c + length v + 1) (c + j) b 0 (omega arith)
+        ∙ cell (set l (c + length v) a) (c + j) (c + length v) (omega arith) ∙ getD-set-same l (c + length v) a 0 (omega arith)
+        ∙ sym (tail-at v (a ∷ b ∷ []) j 0 (omega arith)))
         (λ q. by-same j (length v + 1)
-        (λ p. cell (set (set l (c + length v) a) (c + length v + 1) b) (c + j) (c + length v + 1) (omega arith) ∙ getD-set-same (set l (c + length v) a) (c + length v + 1) b 0 (omega (arith, length-set l (c + length v) a)) ∙ sym (tail-at v (a ∷ b ∷ []) j 1 p))
-        (λ p. getD-set-other (set l (c + length v) a) (c + length v + 1) (c + j) b 0 (omega arith) ∙ getD-set-other l (c + length v) (c + j) a 0 (omega arith) ∙ r .cells j d ∙ List·getD-eq-default v 0 e
+        (λ p. cell (set (set l (c + length v) a) (c + length v + 1) b) (c + j) (c + length v + 1) (omega arith)
+        ∙ getD-set-same (set l (c + length v) a) (c + length v + 1) b 0 (omega (arith, length-set l (c + length v) a)) ∙ sym (tail-at v (a ∷ b ∷ []) j 1 p))
+        (λ p. getD-set-other (set l (c + length v) a) (c + length v + 1) (c + j) b 0 (omega arith) ∙ getD-set-other l (c + length v) (c + j) a 0 (omega arith)
+        ∙ r .cells j d ∙ List·getD-eq-default v 0 e
         ∙ sym (List·getD-eq-default (v ++ (a ∷ b ∷ [])) 0 (omega (arith, length-append v (a ∷ b ∷ [])))))))
 
 -- two fewer, from d on: those behind move up
-pub reads-less : (l : List ℕ) (c k d : ℕ) (v v′ : List ℕ) → Reads l c 18 v → length v ≤ 16 → c + 18 ≤ length l → k + d ≡ 16
+pub reads-less : (l : List ℕ) (c k d : ℕ) (v v′ : List ℕ) → Reads l c rowSize v → length v ≤ openSize → c + rowSize ≤ length l → k + d ≡ openSize
     → ((j : ℕ) → j < d → getD v′ j 0 ≡ getD v j 0) → ((j : ℕ) → d ≤ j → getD v′ j 0 ≡ getD v (suc (suc j)) 0)
-    → Reads (closeUp k (c + d) l) c 18 v′
+    → Reads (closeUp k (c + d) l) c rowSize v′
 reads-less l c k d v v′ r h z e before behind = record { cells = at }
   where
-    at : (j : ℕ) → j < 18 → getD (closeUp k (c + d) l) (c + j) 0 ≡ getD v′ j 0
+    at : (j : ℕ) → j < rowSize → getD (closeUp k (c + d) l) (c + j) 0 ≡ getD v′ j 0
     at j m =
         by-order j d
         (λ q. closed-before k (c + d) l (c + j) (omega arith) ∙ r .cells j m ∙ sym (before j q))
-        (λ q. by-order j 16
+        (λ q. by-order j openSize
         (λ p. closed-in k (c + d) l (c + j) (omega arith) (omega arith) (omega arith) ∙ cell l (c + j + 2) (c + suc (suc j)) (omega arith) ∙ r .cells (suc (suc j)) (omega arith) ∙ sym (behind j q))
         (λ p. closed-behind k (c + d) l (c + j) (omega arith) ∙ r .cells j m ∙ List·getD-eq-default v 0 (omega arith) ∙ sym (behind j q ∙ List·getD-eq-default v 0 (omega arith))))

@@ -9,9 +9,7 @@ use borrow.Author.Tests.{eq-eqb, ne-eqb}
 use Rattle.ledger.specs.Choice.{_⇒_∣_}
 use Rattle.ledger.proofs.Tallies.{chosen}
 use Rattle.octets.specs.Numbers.{be32At}
-use Rattle.octets.specs.Runs.{paste}
-use Rattle.octets.proofs.Runs.{paste-after}
-use Rattle.octets.proofs.Writing.{Unwritten, all-unwritten, less-unwritten, none-unwritten}
+use Rattle.octets.proofs.Writing.{Unwritten, all-unwritten, less-unwritten, none-unwritten, wrote-then, wrote-most, wrote-of}
 use Rattle.text.proofs.Laws.{decimal-most}
 use Rattle.paper.specs.declared.Input.{Input}
 use Rattle.paper.specs.RecordsOut.{sizeOut}
@@ -21,9 +19,10 @@ use Rattle.fates_book.specs.declared.End.the-variants.{Accepted, Denied, Withdr
 use Rattle.fates_book.specs.declared.Line.{Line}
 use Rattle.fates_book.specs.declared.Line.the-variants.{Began, Went}
 use Rattle.fates_book.specs.Lines.{asker, endLine, upLine, lineAt, recordsIn, linesIn, openingLines}
-use Rattle.fates_register.specs.Register.{openOn, entered, enteredAll}
+use Rattle.fates_register.specs.Register.{pageOf, openOn, entered, enteredAll}
 use Rattle.fates_register.proofs.Laws.{entered-append}
-use Rattle.fates_report.specs.Report.{wordCall, wordOf, wordStillOpen, spacedNumber, numbers, indicationLine, openLines, endText, lineText, allText, endTexts, openOnAll}
+use Rattle.fates_report.specs.Report.{wordCall, wordOf, wordStillOpen, spacedNumber, numbers, indicationLine, openLines, endText, lineText}
+use Rattle.fates_report.specs.Report.{allText, endTexts, openOnAll, spacedSize, fateSize, indicationSize, Telling, TellingOf}
 
 -- ---- numbers
 
@@ -39,7 +38,7 @@ numbers-next (suc k) c l h =
     let e : suc k - 1 ≡ k = omega arith in
     rw e
 
-numbers-most : (k c : ℕ) (l : List ℕ) → length (numbers k c l) ≤ 21 * k
+numbers-most : (k c : ℕ) (l : List ℕ) → length (numbers k c l) ≤ spacedSize * k
 unfolding numbers
 numbers-most zero c l = omega arith
 numbers-most (suc k) c l =
@@ -93,23 +92,23 @@ sum-next n i l h =
 
 -- ---- how long the line of a record is
 
-word-most : (e : End) → length (wordOf e) ≤ 10
+word-most : (e : End) → length (wordOf e) ≤ fateSize
 word-most Accepted = omega arith
 word-most Denied = omega arith
 word-most Withdrawn = omega arith
 word-most Dropped = omega arith
 
-pub indication-most : (i c : ℕ) (word l : List ℕ) → length word ≤ 10 → length (indicationLine i c word l) ≤ 100
+indication-most : (i c : ℕ) (word l : List ℕ) → length word ≤ fateSize → length (indicationLine i c word l) ≤ indicationSize
 indication-most i c word l h =
     let a = wordCall ++ spacedNumber i in
-    let b = a ++ numbers 1 (i * 24) l in
+    let b = a ++ numbers 1 (pageOf i) l in
     let d = b ++ numbers 2 c l in
     omega (
       arith,
       decimal-most i,
-      numbers-most 1 (i * 24) l,
+      numbers-most 1 (pageOf i) l,
       numbers-most 2 c l,
-      length-append a (numbers 1 (i * 24) l),
+      length-append a (numbers 1 (pageOf i) l),
       length-append b (numbers 2 c l),
       length-append d word,
       length-append (d ++ word) (10 ∷ []),
@@ -117,12 +116,12 @@ indication-most i c word l h =
 
 -- short enough: all lines but that of an opening are
 abbrev Short : List ℕ → Line → Type 0
-Short l y = length (lineText y l) ≤ 100
+Short l y = length (lineText y l) ≤ indicationSize
 
 went-most : (i n : ℕ) (e : End) (l : List ℕ) → Short l (Went i n e)
 unfolding lineText
 went-most i n e l =
-    chosen (λ (t : List ℕ). length t ≤ 100) _ _ _ (λ q. indication-most i _ (wordOf e) l (word-most e)) (λ q. omega arith)
+    chosen (λ (t : List ℕ). length t ≤ indicationSize) _ _ _ (λ q. indication-most i _ (wordOf e) l (word-most e)) (λ q. omega arith)
 
 end-most : (i n : ℕ) (e : End) (l : List ℕ) → Short l (endLine i n e)
 unfolding endLine lineText
@@ -134,7 +133,7 @@ up-most b l =
     chosen (Short l) _ _ _ (λ q. omega arith)
     (λ q. chosen (Short l) _ _ _ (λ q. omega arith) (λ q. chosen (Short l) _ _ _ (λ q. end-most _ _ Withdrawn l) (λ q. omega arith)))
 
-pub said-most : (q : Input) (b l : List ℕ) → length (lineText (lineAt q b) l) ≤ 100
+pub said-most : (q : Input) (b l : List ℕ) → length (lineText (lineAt q b) l) ≤ indicationSize
 unfolding lineAt lineText
 said-most q b l =
     chosen (Short l) _ _ _ (λ e. went-most (asker q) (be32At b 2) Accepted l)
@@ -176,13 +175,14 @@ all-telling out at q b l = record {
 }
 
 -- a line was told
-pub less-telling : {out₀ : List ℕ} {at : ℕ} {ys : List Line} {l₀ : List ℕ} {q : Input} {b out : List ℕ} {e i : ℕ} {l out' : List ℕ} {e' : ℕ} {l' : List ℕ} (y : Line) (size : ℕ)
+pub less-telling : {out₀ : List ℕ} {at : ℕ} {ys : List Line} {l₀ : List ℕ} {q : Input} {b out : List ℕ} {e i : ℕ} {l out' : List ℕ} {e' most : ℕ}
+    {l' : List ℕ} (y : Line) (size : ℕ)
     → StillTelling out₀ at ys l₀ q b out e i l → i < length b → e ≤ length out
     → y ≡ lineAt q (drop i b) → size ≡ sizeOut (getD b i 0)
-    → (e' ≡ e + length (lineText y l)) × (out' ≡ paste out e (lineText y l)) → l' ≡ entered y l
+    → Telling most (lineText y l) (entered y l) e e' out out' l'
     → StillTelling out₀ at ys l₀ q b out' e' (i + size) l'
 unfolding allText enteredAll
-less-telling {out₀} {at} {ys} {l₀} {q} {b} {out} {e} {i} {l} {out'} {e'} {l'} y size t h f p s w n = go (t .k) (t .enough) (t .text) (t .register)
+less-telling {out₀} {at} {ys} {l₀} {q} {b} {out} {e} {i} {l} {out'} {e'} {most} {l'} y size t h f p s w = go (t .k) (t .enough) (t .text) (t .register)
   where
     go : (k : ℕ) → length b ≤ i + k → Unwritten out₀ at (allText ys l₀) out e (allText (linesIn k q (drop i b)) l)
         → enteredAll ys l₀ ≡ enteredAll (linesIn k q (drop i b)) l → StillTelling out₀ at ys l₀ q b out' e' (i + size) l'
@@ -193,18 +193,22 @@ less-telling {out₀} {at} {ys} {l₀} {q} {b} {out} {e} {i} {l} {out'} {e'} {l'
         record {
           k = k;
           enough = omega (arith, a, s, size-within (getD b i 0));
-          text = less-unwritten (lineText y l) (allText rest l') f c (ap (λ (x : List Line). allText x l) all ∙ ap (λ (x : List ℕ). lineText y l ++ allText rest x) (sym n)) w;
-          register = r ∙ ap (λ (x : List Line). enteredAll x l) all ∙ ap (enteredAll rest) (sym n);
+          text =
+              less-unwritten (lineText y l) (allText rest l') f c
+              (ap (λ (x : List Line). allText x l) all ∙ ap (λ (x : List ℕ). lineText y l ++ allText rest x) (sym (w .entered))) (wrote-of (w .wrote));
+          register = r ∙ ap (λ (x : List Line). enteredAll x l) all ∙ ap (enteredAll rest) (sym (w .entered));
         }
 
 -- all are told
-pub none-telling : {out₀ : List ℕ} {at : ℕ} {ys : List Line} {l₀ : List ℕ} {q : Input} {b out : List ℕ} {e i : ℕ} {l : List ℕ}
-    → StillTelling out₀ at ys l₀ q b out e i l → length b ≤ i
-    → ((e ≡ at + length (allText ys l₀)) × (out ≡ paste out₀ at (allText ys l₀))) × (l ≡ enteredAll ys l₀)
+pub none-telling : {out₀ : List ℕ} {at : ℕ} {ys : List Line} {l₀ : List ℕ} {q : Input} {b out : List ℕ} {e i : ℕ} {l : List ℕ} {most : ℕ}
+    → StillTelling out₀ at ys l₀ q b out e i l → length b ≤ i → e ≤ at + most → TellingOf most ys at e out₀ out l₀ l
 unfolding allText enteredAll
-none-telling {out₀} {at} {ys} {l₀} {q} {b} {out} {e} {i} {l} t h =
+none-telling {out₀} {at} {ys} {l₀} {q} {b} {out} {e} {i} {l} t h f =
     let none = lines-end (t .k) q b i h in
-    (none-unwritten (t .text) (ap (λ (x : List Line). allText x l) none), sym (t .register ∙ ap (λ (x : List Line). enteredAll x l) none))
+    record {
+      wrote = wrote-most f (none-unwritten (t .text) (ap (λ (x : List Line). allText x l) none));
+      entered = sym (t .register ∙ ap (λ (x : List Line). enteredAll x l) none);
+    }
 
 -- ---- a call
 
@@ -216,12 +220,14 @@ text-append (x ∷ xs) ys l =
     ∙ sym (append-assoc (lineText x l) (allText xs (entered x l)) (allText ys (enteredAll xs (entered x l))))
 
 -- some lines were told, and others behind them
-pub lines-told : {out₁ out₂ l₁ l₂ : List ℕ} {e₁ e₂ : ℕ} (out₀ : List ℕ) (at : ℕ) (l₀ : List ℕ) (xs ys : List Line) → at ≤ length out₀
-    → (e₁ ≡ at + length (allText xs l₀)) × (out₁ ≡ paste out₀ at (allText xs l₀)) → l₁ ≡ enteredAll xs l₀
-    → (e₂ ≡ e₁ + length (allText ys l₁)) × (out₂ ≡ paste out₁ e₁ (allText ys l₁)) → l₂ ≡ enteredAll ys l₁
-    → ((e₂ ≡ at + length (allText (xs ++ ys) l₀)) × (out₂ ≡ paste out₀ at (allText (xs ++ ys) l₀))) × (l₂ ≡ enteredAll (xs ++ ys) l₀)
-lines-told {out₁} {out₂} {l₁} {l₂} {e₁} {e₂} out₀ at l₀ xs ys h a n b m =
-    rw (text-append xs ys l₀, entered-append xs ys l₀, ← n) (paste-after out₀ at (allText xs l₀) (allText ys l₁) h a b, m)
+pub lines-told : {out₀ out₁ out₂ l₁ l₂ : List ℕ} {at e₁ e₂ m n : ℕ} (l₀ : List ℕ) (xs ys : List Line) → at ≤ length out₀
+    → TellingOf m xs at e₁ out₀ out₁ l₀ l₁ → TellingOf n ys e₁ e₂ out₁ out₂ l₁ l₂
+    → TellingOf (m + n) (xs ++ ys) at e₂ out₀ out₂ l₀ l₂
+lines-told l₀ xs ys h a b =
+    rw (text-append xs ys l₀, entered-append xs ys l₀, ← a .entered) (record {
+      wrote = wrote-most (omega (arith, a .wrote .few, b .wrote .few)) (wrote-then h (wrote-of (a .wrote)) (wrote-of (b .wrote)));
+      entered = b .entered;
+    })
 
 -- where a stream was opened, its line alone
 pub opened-text : (t : ℕ) (l : List ℕ) → (t ≡ 0 → ⊥) → allText (openingLines t) l ≡ lineText (Began (t - 1)) l

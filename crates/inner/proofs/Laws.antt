@@ -13,7 +13,7 @@ use Rattle.paper.specs.RecordsIn.{recordSize}
 use Rattle.call_outcomes.specs.Leaving.{callMade, isRefused}
 use Rattle.inner.specs.Run.{Ran, ran, passed, runFrom}
 
-pub passed-some : (bytes : List ℕ) → 0 < length bytes → 0 < passed bytes
+passed-some : (bytes : List ℕ) → 0 < length bytes → 0 < passed bytes
 unfolding passed
 passed-some bytes h = chosen (λ (n : ℕ). 0 < n) _ _ _ (λ e. h) (λ e. omega (arith, eqb-false (recordSize bytes) 0 e))
 
@@ -38,7 +38,8 @@ ahead-more capture img bytes n at end h b a = go (a .calls) (a .enough) (rw (←
       calls = calls;
       enough = omega (arith, passed-some bytes size);
       same =
-          ap (runFrom calls (callMade img bytes .image) (n + oneIf (isRefused (callMade img bytes)))) (sym (drop-drop (passed bytes) at capture) ∙ ap (drop (passed bytes)) (sym b))
+          ap (runFrom calls (callMade img bytes .image) (n + oneIf (isRefused (callMade img bytes))))
+          (sym (drop-drop (passed bytes) at capture) ∙ ap (drop (passed bytes)) (sym b))
           ∙ sym (skip _ _ _ (ne-eqb (length bytes) 0 (λ z. omega (arith, size)))) ∙ e;
     }
 

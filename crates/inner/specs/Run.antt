@@ -1,5 +1,7 @@
 -- The run over a capture: one call for each record, and how many of them were refused.
-use Prim.Native.Nat.{ℕ, zero, suc, _+_}
+use Prim.Native.Nat.{ℕ, zero, suc, _+_, _≤_, _<_}
+use mathlib.Core.Path.{_≡_}
+use mathlib.Core.Bool.{Bool, true}
 use mathlib.Core.List.{List}
 use lib.Dec.{eqb}
 use lib.ListN.{length, drop}
@@ -7,7 +9,7 @@ use Rattle.ledger.specs.Choice.{_⇒_∣_}
 use Rattle.ledger.specs.Tally.{oneIf}
 use Rattle.paper.specs.Base.{fresh}
 use Rattle.paper.specs.RecordsIn.{recordSize}
-use Rattle.table_image.specs.Layout.{imageOf}
+use Rattle.table_image.specs.Layout.{imageOf, soundImage, imageSize}
 use Rattle.call_outcomes.specs.Leaving.{callMade, isRefused}
 
 -- The number that a run gives, and the image that it leaves.
@@ -22,7 +24,20 @@ ran n img = record { number = n; image = img }
 unfoldable pub passed : List ℕ → ℕ
 passed bytes = eqb (recordSize bytes) 0 ⇒ length bytes ∣ recordSize bytes
 
--- From an image and a count on. A call is lent all bytes not read yet, and reads a byte at least, so as many calls as there are bytes suffice.
+-- What one call leaves: its image, sound again, and whether it was refused.
+pub record Called (img bytes img' : List ℕ) (refused : Bool) : Type 0 where
+  pub image : img' ≡ callMade img bytes .image
+  pub sound : soundImage img' ≡ true
+  pub told : refused ≡ isRefused (callMade img bytes)
+
+-- How many bytes are read: some, and no more than there are.
+pub record Passed (bytes : List ℕ) (n : ℕ) : Type 0 where
+  pub is : n ≡ passed bytes
+  pub some : 0 < n
+  pub within : n ≤ length bytes
+
+-- From an image and a count on. A call is lent all bytes not read yet, and reads a byte at least, so as many calls as there are
+-- bytes suffice.
 unfoldable pub runFrom : ℕ → List ℕ → ℕ → List ℕ → Ran
 runFrom zero img n bytes = ran n img
 runFrom (suc calls) img n bytes =
@@ -30,9 +45,9 @@ runFrom (suc calls) img n bytes =
     ∣ runFrom calls (callMade img bytes .image) (n + oneIf (isRefused (callMade img bytes))) (drop (passed bytes) bytes)
 
 -- The number that says that the lent table has not the size of one.
-abbrev pub noTable : ℕ
+abbrev noTable : ℕ
 noTable = 18446744073709551615
 
 -- The run, whole: from a fresh table.
 unfoldable pub runOf : List ℕ → List ℕ → Ran
-runOf img bytes = eqb (length img) 760 ⇒ runFrom (length bytes) (imageOf fresh) 0 bytes ∣ ran noTable img
+runOf img bytes = eqb (length img) imageSize ⇒ runFrom (length bytes) (imageOf fresh) 0 bytes ∣ ran noTable img

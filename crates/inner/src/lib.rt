@@ -2,21 +2,19 @@
 // No part of the library for C.
 ghost use mathlib.Core.Path.{_≡_};
 ghost use mathlib.Core.Bool.{true};
-ghost use Prim.Native.Nat.{_<_, _≤_};
+ghost use Prim.Native.Nat.{_<_};
 ghost use lib.ListN.{length};
 ghost use Rattle.table_image.specs.Layout.{soundImage};
-ghost use Rattle.call_outcomes.specs.Leaving.{callMade, isRefused};
-ghost use Rattle.inner.specs.Run.{ran, passed, runFrom, runOf};
+ghost use Rattle.inner.specs.Run.{ran, Called, Passed, runFrom, runOf};
 
 const NO_TABLE: u64 = 0xffffffffffffffff;
 
 // One call, and whether it was refused.
 fn one_call(table: &mut [u8], bytes: &[u8]) -> bool
     requires { ⌜ soundImage (now table) ≡ true ⌝ }
-    ensures { λ r. ⌜ (now (table .exit) ≡ callMade (now (table .entry)) (now (bytes .entry)) .image) × (soundImage (now (table .exit)) ≡ true) ⌝ }
-    ensures { λ r. ⌜ r ≡ isRefused (callMade (now (table .entry)) (now (bytes .entry))) ⌝ }
+    ensures { λ r. ⌜ Called (now (table .entry)) (now (bytes .entry)) (now (table .exit)) r ⌝ }
 {
-    let mut room = [0u8; 128];
+    let mut room = [0u8; paper::ROOM_SIZE];
     let answer = call_engine::call_sound(table, bytes, &mut room);
     0 < answer / 65536 % 256
 }
@@ -24,7 +22,7 @@ fn one_call(table: &mut [u8], bytes: &[u8]) -> bool
 // Reading goes on behind the record; where its size is 0, it ends.
 fn passed(bytes: &[u8]) -> usize
     requires { ⌜ 0 < length (now bytes) ⌝ }
-    ensures { λ n. ⌜ (n ≡ passed (now (bytes .entry))) × (0 < n) × (n ≤ length (now (bytes .entry))) ⌝ }
+    ensures { λ n. ⌜ Passed (now (bytes .entry)) n ⌝ }
 {
     let size = wire_records::record_size(bytes);
     if size == 0 {
@@ -55,7 +53,7 @@ fn run(table: &mut [u8], capture: &[u8]) -> u64
 pub extern "C" fn inner_run(table: &mut [u8], capture: &[u8]) -> u64
     ensures { λ n. ⌜ ran n (now (table .exit)) ≡ runOf (now (table .entry)) (now (capture .entry)) ⌝ }
 {
-    if table.len() != 760 {
+    if table.len() != table_image::IMAGE_SIZE {
         return NO_TABLE;
     }
     table_image::make_fresh(table);

@@ -8,7 +8,7 @@ use borrow.Author.Tests.{eqb-true, ltb-true, ltb-false}
 use Rattle.ledger.specs.Choice.{both}
 use Rattle.ledger.specs.Tally.{oneIf, firstOf}
 use Rattle.ledger.proofs.Tallies.{first-none}
-use Rattle.paper.specs.Base.{Slot, Table, stream}
+use Rattle.paper.specs.Base.{Slot, Table, stream, streamTotal}
 use Rattle.paper.specs.Saps.{grantOf, listens, listener, isListenedFor}
 use Rattle.paper.specs.Sound.{listenersOf}
 use Rattle.paper.specs.Effects.{boundIn}
@@ -29,7 +29,7 @@ module _ (t : Table) (k : Sound t) where
   unfolding isListenedFor listener
   unlistened p sap e =
       let there : Slot → Bool = λ (x : Slot). listens p sap (x .stream) in
-      first-none there (t .slots) (omega (arith, k .sixteen, ltb-false (firstOf there (t .slots)) 16 e))
+      first-none there (t .slots) (omega (arith, k .sixteen, ltb-false (firstOf there (t .slots)) streamTotal e))
 
   pub bind-alone : (i : ℕ) (b : BindRequest) (q : State) → MayBind t i b → (p : PpaNumber) (sap : ℕ) → hearing p sap (boundBy t i b q) + listenersOf t p sap ≤ 1
   unfolding listens

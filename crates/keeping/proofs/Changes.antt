@@ -10,8 +10,8 @@ use native.Mathlib.Omega.{arith}
 use borrow.Author.Tests.{eqb-true, ltb-true, ltb-false, lt-ltb}
 use Rattle.ledger.specs.Tally.{occ, has}
 use Rattle.ledger.proofs.Tallies.{occ-length, picked}
-use Rattle.paper.specs.Base.{numberOf, number, isIn, isAmong, boundStates, connectionStates, noStream, inState, attachedIn, settled, Slot, closed}
-use Rattle.paper.specs.Saps.{asBindAllows}
+use Rattle.paper.specs.Base.{numberOf, number, isIn, isAmong, boundStates, connectionStates, noStream, inState, attachedIn, settled, Slot, closed, stream}
+use Rattle.paper.specs.Saps.{asBindAllows, mostOpen}
 use Rattle.paper.specs.declared.State.{State}
 use Rattle.paper.specs.declared.Stream.{Stream}
 use Rattle.paper.specs.declared.PpaNumber.{PpaNumber}
@@ -43,12 +43,12 @@ module _ (ps : List ℕ) where
       go true e = refl
       go false e = absurd (false≢true (sym h ∙ ap (λ (y : Slot). isIn 0 (y .stream)) (o .shut e)))
 
-  pub eight : (x : Slot) → Ok ps x → x .stream .granted ≤ 8
+  pub eight : (x : Slot) → Ok ps x → x .stream .granted ≤ mostOpen
   eight x o = go (isAmong boundStates (x .stream)) refl
     where
-      go : (b : Bool) → isAmong boundStates (x .stream) ≡ b → x .stream .granted ≤ 8
-      go true e = allows (x .stream) (o .bound e) .0
-      go false e = omega (arith, o .unbound e .2)
+      go : (b : Bool) → isAmong boundStates (x .stream) ≡ b → x .stream .granted ≤ mostOpen
+      go true e = allows (x .stream) (o .bound e) .few
+      go false e = omega (arith, o .unbound e .granted)
 
   -- only 9 has open numbers
   pub quiet : (x : Slot) → Ok ps x → isIn 9 (x .stream) ≡ false → length (x .waiting) ≡ 0
@@ -63,7 +63,7 @@ module _ (ps : List ℕ) where
     shut = λ e. refl;
     loose = λ e. refl;
     attached = λ e. absurd (false≢true (sym e));
-    unbound = λ e. (refl, refl, refl);
+    unbound = λ e. record { mode = refl; sap = refl; granted = refl };
     bound = λ e. absurd (false≢true e);
     connected = λ e. absurd (false≢true e);
     nine = refl;
@@ -80,7 +80,7 @@ module _ (ps : List ℕ) where
     shut = λ e. absurd (false≢true (sym e));
     loose = λ e. refl;
     attached = λ e. absurd (false≢true (sym e));
-    unbound = λ e. (refl, refl, refl);
+    unbound = λ e. record { mode = refl; sap = refl; granted = refl };
     bound = λ e. absurd (false≢true e);
     connected = λ e. absurd (false≢true e);
     nine = sym z;
@@ -94,7 +94,7 @@ module _ (ps : List ℕ) where
     shut = λ e. absurd (false≢true (sym e));
     loose = λ e. absurd (false≢true (sym n ∙ e));
     attached = λ e. a;
-    unbound = λ e. (refl, refl, refl);
+    unbound = λ e. record { mode = refl; sap = refl; granted = refl };
     bound = λ e. absurd (false≢true (sym b ∙ e));
     connected = λ e. absurd (false≢true (sym b ∙ connection-bound (numberOf q) e));
     nine = not-nine (λ (m : ℕ). has m boundStates) (numberOf q) refl b ∙ sym z;

@@ -14,18 +14,22 @@ use Rattle.ledger.proofs.Tallies.{both-of, to-both, at-all, chosen, one-most, s
 use Rattle.ledger.specs.Lists.{listed, joined}
 use Rattle.ledger.proofs.Lists.{each-listed}
 use Rattle.octets.specs.Numbers.{be32At}
-use Rattle.octets.specs.Runs.{Bytes, part, allZero}
+use Rattle.octets.specs.Runs.{Bytes, allZero}
 use Rattle.octets.specs.Blocks.{flat}
 use Rattle.octets.proofs.Runs.{part-bytes, zero-bytes, zeros-pass}
 use Rattle.octets.proofs.Numbers.{be32At-small}
 use Rattle.octets.proofs.Blocks.{flat-length}
-use Rattle.paper.specs.Base.{Slot, closed, Table, slot, ppaNumbers, noPpa, fresh}
+use Rattle.paper.specs.Base.{Slot, closed, Table, slot, ppaNumbers, noPpa, fresh, streamTotal, macSize, stream}
 use Rattle.paper.specs.Correlations.{occurrences}
 use Rattle.paper.specs.Sound.{sound}
 use Rattle.paper.specs.Step.{step}
 use Rattle.paper.specs.declared.Ppa.{Ppa}
 use Rattle.paper.proofs.StateNumbers.{in-every}
-use Rattle.table_image.specs.Layout.{ppaBase, slotBase, ppaFrom, waitingFrom, slotAt, ppaAt, tableOf, ppaBytes, streamBytes, waitingBytes, slotBytes, headerBytes, imageOf, isState, tidySlot, slotParts, tidyPpas, tidy, soundImage}
+use Rattle.paper.specs.Saps.{mostOpen}
+use Rattle.table_image.specs.Layout.{ppaBase, slotBase, ppaFrom, waitingFrom, slotAt, ppaAt, tableOf, ppaBytes, streamBytes, waitingBytes}
+use Rattle.table_image.specs.Layout.{slotBytes, headerBytes, imageOf, isState, tidySlot, slotParts, tidyPpas, tidy, soundImage}
+use Rattle.table_image.specs.Layout.{ppaCountOffset, placesOffset, placeSize, placesSize, countOffset, numbersOffset, numbersSize, slotSize}
+use Rattle.table_image.specs.Layout.{numberBase, ppaPart, slotPart}
 use Rattle.table_image.specs.Shape.{Shaped}
 use Rattle.table_image.proofs.Shapes.{ppas-length, image-length}
 use Rattle.table_image.proofs.TableBack.{slot-part, table-back}
@@ -46,15 +50,15 @@ drop-past (x ∷ a) b n (suc m) e = let z : n + suc m ≡ suc (n + m) = omega ar
 
 -- ---- the image of a sound table is tidy
 
-slot-tidy : (x : Slot) → length (x .waiting) ≤ 8 → tidySlot (slotBytes x) ≡ true
+slot-tidy : (x : Slot) → length (x .waiting) ≤ mostOpen → tidySlot (slotBytes x) ≡ true
 unfolding tidySlot isState streamBytes waitingBytes
 slot-tidy x h =
     let w : List ℕ = x .waiting in
-    let z : List ℕ = replicate (32 - length (flat w)) 0 in
+    let z : List ℕ = replicate (numbersSize - length (flat w)) 0 in
     to-both _ _ (in-every (x .stream .state)) (to-both _ _ (le-leb _ _ h)
-    (ap (λ (l : List ℕ). allZero (take (32 - length w * 4) l))
-    (drop-past (take 10 (slotBytes x)) (flat w ++ z) (length w * 4) 10 refl ∙ drop-at (flat w) z (length w * 4) (flat-length w) ∙ sym (append-nil z))
-    ∙ zeros-pass (32 - length w * 4) (32 - length (flat w)) [] (omega (arith, flat-length w))))
+    (ap (λ (l : List ℕ). allZero (take (numbersSize - length w * 4) l))
+    (drop-past (take numbersOffset (slotBytes x)) (flat w ++ z) (length w * 4) numbersOffset refl ∙ drop-at (flat w) z (length w * 4) (flat-length w) ∙ sym (append-nil z))
+    ∙ zeros-pass (numbersSize - length w * 4) (numbersSize - length (flat w)) [] (omega (arith, flat-length w))))
 
 module _ (t : Table) (k : Sound t) where
   memory-tidy : leb (getD (imageOf t) 2 0) 1 ≡ true
@@ -65,18 +69,18 @@ module _ (t : Table) (k : Sound t) where
   unfolding imageOf headerBytes
   ppas-tidy =
       let l : List ℕ = joined ppaBytes (t .ppas) in
-      let z : List ℕ = replicate (80 - length l) 0 in
+      let z : List ℕ = replicate (placesSize - length l) 0 in
       let r : List ℕ = joined slotBytes (t .slots) in
       to-both _ _ (le-leb _ _ (k .most))
-      (ap (λ (c : List ℕ). allZero (take (80 - length (t .ppas) * 10) c))
-      (drop-past (take 8 (imageOf t)) ((l ++ z) ++ r) (length (t .ppas) * 10) 8 refl
-      ∙ ap (drop (length (t .ppas) * 10)) (append-assoc l z r)
-      ∙ drop-at l (z ++ r) (length (t .ppas) * 10) (ppas-length t (shaped t k)))
-      ∙ zeros-pass (80 - length (t .ppas) * 10) (80 - length l) r (omega (arith, ppas-length t (shaped t k))))
+      (ap (λ (c : List ℕ). allZero (take (placesSize - length (t .ppas) * placeSize) c))
+      (drop-past (take placesOffset (imageOf t)) ((l ++ z) ++ r) (length (t .ppas) * placeSize) placesOffset refl
+      ∙ ap (drop (length (t .ppas) * placeSize)) (append-assoc l z r)
+      ∙ drop-at l (z ++ r) (length (t .ppas) * placeSize) (ppas-length t (shaped t k)))
+      ∙ zeros-pass (placesSize - length (t .ppas) * placeSize) (placesSize - length l) r (omega (arith, ppas-length t (shaped t k))))
 
   slots-tidy : allOf tidySlot (slotParts (imageOf t)) ≡ true
   slots-tidy = at-all tidySlot (slotBytes closed) (slotParts (imageOf t))
-      (each-listed (λ (c : List ℕ). tidySlot c ≡ true) (λ i. part (imageOf t) (slotBase i) 42) 0 16 (slotBytes closed)
+      (each-listed (λ (c : List ℕ). tidySlot c ≡ true) (slotPart (imageOf t)) 0 streamTotal (slotBytes closed)
       (λ i h. ap tidySlot (slot-part t (shaped t k) i h) ∙ slot-tidy (slot t i) (shaped t k .eight i)) (slot-tidy closed (omega arith)))
 
   pub image-tidy : tidy (imageOf t) ≡ true
@@ -107,27 +111,29 @@ module _ (img : List ℕ) (h : tidy img ≡ true) where
 
   macs-tidy : (j : ℕ) → Bytes (getD (tableOf img .ppas) j noPpa .mac)
   unfolding tableOf ppaAt ppaFrom
-  macs-tidy = each-listed (λ (p : Ppa). Bytes (p .mac)) (ppaAt img) 0 (getD img 3 0) noPpa (λ k b. part-bytes (part img (ppaBase k) 10) 4 6 (part-bytes img (ppaBase k) 10 bytes)) (zero-bytes 6)
+  macs-tidy =
+      each-listed (λ (p : Ppa). Bytes (p .mac)) (ppaAt img) 0 (getD img ppaCountOffset 0) noPpa
+      (λ k b. part-bytes (ppaPart img k) 4 macSize (part-bytes img (ppaBase k) placeSize bytes)) (zero-bytes macSize)
 
   numbers-small : (n : ℕ) → 2 ^ 32 ≤ n → occurrences (tableOf img) n ≡ 0
   unfolding occurrences tableOf slotAt waitingFrom
-  numbers-small n b = sum-none (λ (x : Slot). occ n (x .waiting)) closed (listed (slotAt img) 0 16)
-      (each-listed (λ (x : Slot). occ n (x .waiting) ≡ 0) (slotAt img) 0 16 closed
-      (λ i d. let c : List ℕ = part img (slotBase i) 42 in
-      none-listed (λ k. be32At c (k * 4 + 10)) 0 (getD c 9 0) n (λ k. be32At-small c (k * 4 + 10) (part-bytes img (slotBase i) 42 bytes)) b)
+  numbers-small n b = sum-none (λ (x : Slot). occ n (x .waiting)) closed (listed (slotAt img) 0 streamTotal)
+      (each-listed (λ (x : Slot). occ n (x .waiting) ≡ 0) (slotAt img) 0 streamTotal closed
+      (λ i d. let c : List ℕ = slotPart img i in
+      none-listed (λ k. be32At c (numberBase k)) 0 (getD c countOffset 0) n (λ k. be32At-small c (numberBase k) (part-bytes img (slotBase i) slotSize bytes)) b)
       refl)
 
   ppas-small : (p : ℕ) → 2 ^ 32 ≤ p → occ p (ppaNumbers (tableOf img)) ≡ 0
   unfolding tableOf ppaAt ppaFrom
-  ppas-small p b = ap (occ p) (map-listed (λ (p : Ppa). p .number .0) (ppaAt img) 0 (getD img 3 0))
-      ∙ none-listed (λ k. be32At (part img (ppaBase k) 10) 0) 0 (getD img 3 0) p (λ k. be32At-small (part img (ppaBase k) 10) 0 (part-bytes img (ppaBase k) 10 bytes)) b
+  ppas-small p b = ap (occ p) (map-listed (λ (p : Ppa). p .number .0) (ppaAt img) 0 (getD img ppaCountOffset 0))
+      ∙ none-listed (λ k. be32At (ppaPart img k) 0) 0 (getD img ppaCountOffset 0) p (λ k. be32At-small (ppaPart img k) 0 (part-bytes img (ppaBase k) placeSize bytes)) b
 
 pub table-sound : (img : List ℕ) → soundImage img ≡ true → Sound (tableOf img)
 unfolding soundImage
 table-sound img s =
     let h : (tidy img ≡ true) × (sound (tableOf img) ≡ true) = both-of _ _ s in
     let q : Shaped (tableOf img) = shaped-table img (h .0) in
-    sound-tested (tableOf img) (q .sixteen) (counter-small img (h .0)) (λ j. (q .macs j, macs-tidy img (h .0) j)) (numbers-small img (h .0)) (ppas-small img (h .0)) (h .1)
+    sound-tested (tableOf img) (q .sixteen) (counter-small img (h .0)) (λ j. record { six = q .macs j; bytes = macs-tidy img (h .0) j }) (numbers-small img (h .0)) (ppas-small img (h .0)) (h .1)
 
 -- A fresh table as it is lent is sound.
 pub fresh-image : soundImage (imageOf fresh) ≡ true

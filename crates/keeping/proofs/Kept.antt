@@ -14,11 +14,11 @@ use Rattle.fates_book.specs.declared.End.the-variants.{Denied, Withdrawn}
 use Rattle.fates_book.specs.declared.Line.the-variants.{Nothing}
 use Rattle.ledger.proofs.Sums.{of-asks}
 use Rattle.ledger.proofs.Lists.{replicate-at}
-use Rattle.paper.specs.Base.{number, Slot, closed, Table, fresh, slot, stream, waiting, lowestFree, tokenOf, ppaNumbers, knows, withPpa}
+use Rattle.paper.specs.Base.{number, Slot, closed, Table, fresh, slot, stream, waiting, lowestFree, tokenOf, ppaNumbers, knows, withPpa, macSize, streamTotal}
 use Rattle.paper.specs.Saps.{listens}
 use Rattle.paper.specs.RecordsIn.{inputOf}
 use Rattle.paper.specs.Refusals.{Outcome}
-use Rattle.paper.specs.Correlations.{occurrences, nextNumber}
+use Rattle.paper.specs.Correlations.{occurrences, nextNumber, mostPassed}
 use Rattle.paper.specs.StateRows.{connectRes, disconnectReq, callWithdrawn, stateRows, found}
 use Rattle.paper.specs.Sight.{requestAsks, letterOf}
 use Rattle.paper.specs.Effects.{effectOf, eventEffect}
@@ -35,6 +35,7 @@ use Rattle.paper.proofs.RowFound.{row-from}
 use Rattle.paper.proofs.Fair.{Fair, informs, tellsToken, attaches, detaches, binds, unbinds, connects, acceptsHere, acceptsOn, denies, disconnects, resets, answersReset}
 use Rattle.paper.proofs.Walk.{done, failing, serving, Brings, arriving, accepted, gone, withdrawn, reset, confirmed, Way, refusing, adding, opening, closing, answering, bringing, step-walk}
 use Rattle.paper.proofs.StateNumbers.{bound-attached}
+use Rattle.paper.proofs.Records.{AddsWhole, adds-whole}
 use Rattle.keeping.specs.Soundness.{Sound}
 use Rattle.keeping.specs.RowsFit.{toState, lastState, mayTake, mayLose, enders, fitsStaying, fitsMoving, fitsDisconnecting, fitsAttaching, fitsBinding, fitsTaking, fitsLosing, RowsFit}
 use Rattle.keeping.proofs.Changes.{opened, in-nine, ok-closed}
@@ -44,7 +45,6 @@ use Rattle.keeping.proofs.Rows.{state-rows-fit, rowOf, passes}
 use Rattle.keeping.proofs.Effects.{Good, onward-good, unchanged-good, attach-good, bind-good}
 use Rattle.keeping.proofs.Listeners.{takes-good, less-good, accept-on, accept-here}
 use Rattle.keeping.proofs.Closes.{open-nonzero, close-good}
-use Rattle.keeping.proofs.Read.{Whole, read-whole}
 use Rattle.keeping.proofs.Lent.{shaped}
 use Rattle.keeping.proofs.Tested.{sound-test}
 use Rattle.keeping.proofs.NextNumber.{next-free}
@@ -55,7 +55,7 @@ next-below zero count c h = h
 next-below (suc j) count c h = picked (λ (n : ℕ). n < 2 ^ 32) (free count c) _ _ (λ e. h) (λ e. next-below j count ((c + 1) % 2 ^ 32) (omega arith))
 
 -- a free stream has no open numbers
-free-empty : (t : Table) → Sound t → lowestFree t < 16 → length (waiting t (lowestFree t)) ≡ 0
+free-empty : (t : Table) → Sound t → lowestFree t < streamTotal → length (waiting t (lowestFree t)) ≡ 0
 unfolding lowestFree
 free-empty t k h =
     let isFree : Slot → Bool = λ (x : Slot). not (x .isOpen) in
@@ -96,7 +96,7 @@ module _ (rows : List StateRow) (f : RowsFit rows) (t : Table) (k : Sound t) whe
   brought-good i x r {q} (arriving y b) h d =
       let p : mayTake (number (stream t i)) (toState x) ≡ true = passing i h fitsTaking (f .taking) in
       takes-good t k i (opened (ppaNumbers t) (slot t i) (k .each i) (bound-attached (number (stream t i)) (both-of _ _ p .0))) x _ q i r _ _ _ p d
-      (next-free t (shaped t k) (k .small)) (next-below 129 (occurrences t) (t .counter) (k .small)) refl
+      (next-free t (shaped t k) (k .small)) (next-below mostPassed (occurrences t) (t .counter) (k .small)) refl
   brought-good i x r (accepted u) h d = onward-good t i _ i _ k u x _ _ _ (passing i h fitsMoving (f .moving)) refl
   brought-good i x r (gone u) h d = onward-good t i _ i _ k u x _ _ _ (passing i h fitsMoving (f .moving)) refl
   brought-good i x r (withdrawn u) h d = less-good t k i u x _ d (loses-row i callWithdrawn _ h refl d) _ i _ _ _ _ Withdrawn [] (rw (open-nonzero t k i _ d)) refl
@@ -104,11 +104,11 @@ module _ (rows : List StateRow) (f : RowsFit rows) (t : Table) (k : Sound t) whe
   brought-good i x r (confirmed u) h d = onward-good t i _ i _ k u x _ _ _ (passing i h fitsMoving (f .moving)) refl
 
   -- ---- every way
-  ways-good : {r : List ℕ} {q : Input} {o : Outcome} → Bytes r → Whole r q → Way rows t r q o → Good t q o
+  ways-good : {r : List ℕ} {q : Input} {o : Outcome} → Bytes r → AddsWhole r q → Way rows t r q o → Good t q o
   unfolding knows withPpa
   ways-good b w (refusing some small) = record { kept = k; seen = shows-still t [] refl }
   ways-good {r} b w (adding {p} a) = record {
-    kept = ppa-sound t k _ (a .few) (a .new) (w p refl .1) (part-length r 5 6 (w p refl .0), part-bytes r 5 6 b);
+    kept = ppa-sound t k _ (a .few) (a .new) (w p refl .small) (record { six = part-length r 5 macSize (w p refl .long); bytes = part-bytes r 5 macSize b });
     seen = λ s. record { shaded = refl; fairly = refl; granted = λ g f. f; rootedly = λ m f. refl; opens = λ m f. f };
   }
   ways-good b w (opening l) = record { kept = open-sound t k (lowestFree t); seen = shows-opens t (lowestFree t) (omega (arith, k .sixteen)) (free-empty t k l) }
@@ -119,7 +119,7 @@ module _ (rows : List StateRow) (f : RowsFit rows) (t : Table) (k : Sound t) whe
 
 -- Every call, by any list of state rows that fits.
 pub good : (rows : List StateRow) → RowsFit rows → (t : Table) → Sound t → (r : List ℕ) → Bytes r → (room : ℕ) → Good t (inputOf r) (stepBy rows t r room)
-good rows f t k r b room = ways-good rows f t k b (read-whole r b) (step-walk rows t r room (sound-test t k))
+good rows f t k r b room = ways-good rows f t k b (adds-whole r b) (step-walk rows t r room (sound-test t k))
 
 pub keeps : (t : Table) → Sound t → (r : List ℕ) → Bytes r → (room : ℕ) → Sound (step t r room .table)
 keeps t k r b room = good stateRows state-rows-fit t k r b room .kept
@@ -131,11 +131,11 @@ unfolding occurrences listens
 fresh-sound = record {
   sixteen = refl;
   small = omega arith;
-  each = λ i. rw (replicate-at 16 closed i) (ok-closed []);
+  each = λ i. rw (replicate-at streamTotal closed i) (ok-closed []);
   once = λ n. omega arith;
   alone = λ p q. omega arith;
   differ = λ p. omega arith;
   most = omega arith;
-  macs = λ j. (refl, zero-bytes 6);
-  recalls = λ e i. rw (replicate-at 16 closed i);
+  macs = λ j. record { six = refl; bytes = zero-bytes macSize };
+  recalls = λ e i. rw (replicate-at streamTotal closed i);
 }

@@ -8,13 +8,13 @@ use lib.ListN.{length, length-set, length-append}
 use lib.Dec.{eqb, ltb}
 use native.Mathlib.Omega.{arith}
 use borrow.Author.Tests.{eqb-true, ltb-true, ltb-false, lt-ltb}
-use Rattle.octets.specs.Runs.{Bytes}
 use Rattle.ledger.specs.Choice.{pick}
 use Rattle.ledger.specs.Tally.{oneIf, occ, has, free}
 use Rattle.ledger.proofs.Tallies.{both-of, picked}
 use Rattle.ledger.proofs.Sums.{occ-append, sum-put}
 use Rattle.ledger.proofs.Lists.{each-set, each-more}
-use Rattle.paper.specs.Base.{numberOf, isIn, boundStates, noStream, inState, attachedIn, settled, Slot, closed, justOpened, Table, slot, stream, waiting, ppaNumbers, noPpa, withSlot, withNumbers, withStream, withCounter, withPpa, remembering}
+use Rattle.paper.specs.Base.{numberOf, isIn, boundStates, noStream, inState, attachedIn, settled, Slot, closed, justOpened, Table, mostPpas}
+use Rattle.paper.specs.Base.{slot, stream, waiting, ppaNumbers, noPpa, withSlot, withNumbers, withStream, withCounter, withPpa, remembering}
 use Rattle.paper.specs.Saps.{listens}
 use Rattle.paper.specs.Correlations.{occurrences}
 use Rattle.paper.specs.Sound.{listenersOf}
@@ -22,7 +22,7 @@ use Rattle.paper.specs.declared.State.{State}
 use Rattle.paper.specs.declared.Stream.{Stream}
 use Rattle.paper.specs.declared.Ppa.{Ppa}
 use Rattle.paper.specs.declared.PpaNumber.{PpaNumber}
-use Rattle.keeping.specs.Soundness.{cap, Ok, Sound}
+use Rattle.keeping.specs.Soundness.{cap, Ok, Sound, IsMac}
 use Rattle.keeping.proofs.Changes.{Fits, ok-closed, ok-none, ok-settled}
 
 abbrev pub hearing : PpaNumber → ℕ → Stream → ℕ
@@ -141,8 +141,8 @@ more-sound t k i n c q b f v u w m l =
         at-b false q = rw q (omega (arith, k .once j))
 
 -- ---- G: one more PPA
-pub ppa-sound : (t : Table) → Sound t → (p : Ppa) → length (t .ppas) < 8 → has (p .number .0) (ppaNumbers t) ≡ false → p .number .0 < 2 ^ 32
-    → (length (p .mac) ≡ 6) × Bytes (p .mac) → Sound (withPpa t p)
+pub ppa-sound : (t : Table) → Sound t → (p : Ppa) → length (t .ppas) < mostPpas → has (p .number .0) (ppaNumbers t) ≡ false → p .number .0 < 2 ^ 32
+    → IsMac (p .mac) → Sound (withPpa t p)
 unfolding withPpa occurrences
 ppa-sound t k p l n u m = record {
   sixteen = k .sixteen;
@@ -152,7 +152,7 @@ ppa-sound t k p l n u m = record {
   alone = k .alone;
   differ = λ q. rw (numbers (t .ppas), occ-append) (differs q (eqb q new) refl (ltb-false 0 (occ new (ppaNumbers t)) n));
   most = simp length-append (omega arith);
-  macs = each-more (λ (y : Ppa). (length (y .mac) ≡ 6) × Bytes (y .mac)) (t .ppas) p noPpa (k .macs) m;
+  macs = each-more (λ (y : Ppa). IsMac (y .mac)) (t .ppas) p noPpa (k .macs) m;
   recalls = k .recalls;
 }
   where

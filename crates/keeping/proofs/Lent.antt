@@ -20,14 +20,15 @@ use Rattle.paper.specs.Correlations.{occurrences}
 use Rattle.paper.specs.declared.Stream.{Stream}
 use Rattle.paper.specs.declared.Ppa.{Ppa}
 use Rattle.paper.proofs.StateNumbers.{state-byte}
-use Rattle.paper.proofs.Saps.{bind-small}
-use Rattle.table_image.specs.Layout.{maskOf, ppaBytes, streamBytes, waitingBytes, slotBytes, headerBytes, imageOf}
+use Rattle.paper.proofs.Saps.{Small, bind-small}
+use Rattle.paper.specs.Saps.{mostOpen}
+use Rattle.table_image.specs.Layout.{maskOf, ppaBytes, streamBytes, waitingBytes, slotBytes, headerBytes, imageOf, placesSize, numbersSize}
 use Rattle.table_image.specs.Shape.{Shaped}
 use Rattle.keeping.specs.Soundness.{Sound}
 use Rattle.keeping.proofs.Changes.{eight}
 
 pub shaped : (t : Table) → Sound t → Shaped t
-shaped t k = record { sixteen = k .sixteen; few = k .most; macs = λ j. k .macs j .0; eight = λ i. omega (arith, k .each i .few, eight (ppaNumbers t) (slot t i) (k .each i)) }
+shaped t k = record { sixteen = k .sixteen; few = k .most; macs = λ j. k .macs j .six; eight = λ i. omega (arith, k .each i .few, eight (ppaNumbers t) (slot t i) (k .each i)) }
 
 -- ---- bytes
 append-bytes : (a b : List ℕ) → areBytes a ≡ true → areBytes b ≡ true → areBytes (a ++ b) ≡ true
@@ -76,12 +77,12 @@ number-small (x ∷ l) h zero = h (x .number .0) (rw (eq-eqb (x .number .0) (x .
 number-small (x ∷ l) h (suc j) = number-small l (λ p m. h p (omega arith)) j
 
 module _ (t : Table) (k : Sound t) where
-  seat-small : (i : ℕ) → (stream t i .mode < 256) × (stream t i .sap < 65536)
+  seat-small : (i : ℕ) → Small (stream t i)
   seat-small i = go (isAmong boundStates (stream t i)) refl
     where
-      go : (b : Bool) → isAmong boundStates (stream t i) ≡ b → (stream t i .mode < 256) × (stream t i .sap < 65536)
+      go : (b : Bool) → isAmong boundStates (stream t i) ≡ b → Small (stream t i)
       go true e = bind-small (stream t i) (k .each i .bound e)
-      go false e = let u : (stream t i .mode ≡ 0) × (stream t i .sap ≡ 0) × (stream t i .granted ≡ 0) = k .each i .unbound e in (omega (arith, u .0), omega (arith, u .1))
+      go false e = let u = k .each i .unbound e in record { mode = omega (arith, u .mode); sap = omega (arith, u .sap) }
 
   ppa-small : (i : ℕ) → stream t i .ppa .0 < 2 ^ 32
   ppa-small i = go (isIn 0 (stream t i)) refl
@@ -99,31 +100,31 @@ module _ (t : Table) (k : Sound t) where
   slot-bytes i =
       let s : Stream = stream t i in
       let w : List ℕ = waiting t i in
-      let e : s .granted ≤ 8 = eight (ppaNumbers t) (slot t i) (k .each i) in
+      let e : s .granted ≤ mostOpen = eight (ppaNumbers t) (slot t i) (k .each i) in
       append-bytes (streamBytes s) (waitingBytes w)
       (append-bytes ((numberOf (s .state) ∷ s .mode ∷ []) ++ be16 (s .sap) ++ be32 (s .ppa .0)) (s .granted ∷ [])
       (append-bytes ((numberOf (s .state) ∷ s .mode ∷ []) ++ be16 (s .sap)) (be32 (s .ppa .0))
-      (append-bytes (numberOf (s .state) ∷ s .mode ∷ []) (be16 (s .sap)) (byte (numberOf (s .state)) (s .mode ∷ []) (state-byte (s .state)) (byte (s .mode) [] (seat-small i .0) refl))
-      (be16-bytes (s .sap) (seat-small i .1)))
+      (append-bytes (numberOf (s .state) ∷ s .mode ∷ []) (be16 (s .sap)) (byte (numberOf (s .state)) (s .mode ∷ []) (state-byte (s .state)) (byte (s .mode) [] (seat-small i .mode) refl))
+      (be16-bytes (s .sap) (seat-small i .sap)))
       (be32-bytes (s .ppa .0) (ppa-small i)))
       (byte (s .granted) [] (omega arith) refl))
-      (byte (length w) (padTo 32 (flat w)) (omega (arith, k .each i .few)) (pad-bytes 32 (flat w) (flat-bytes w (open-small i))))
+      (byte (length w) (padTo numbersSize (flat w)) (omega (arith, k .each i .few)) (pad-bytes numbersSize (flat w) (flat-bytes w (open-small i))))
 
   ppa-bytes : (j : ℕ) → areBytes (ppaBytes (getD (t .ppas) j noPpa)) ≡ true
   ppa-bytes j =
       let p : Ppa = getD (t .ppas) j noPpa in
       append-bytes (be32 (p .number .0)) (p .mac) (be32-bytes (p .number .0) (number-small (t .ppas) (λ p h. omega (arith, k .differ p)) j))
-      (at-all (λ (n : ℕ). ltb n 256) 0 (p .mac) (λ b. lt-ltb _ _ (k .macs j .1 b)))
+      (at-all (λ (n : ℕ). ltb n 256) 0 (p .mac) (λ b. lt-ltb _ _ (k .macs j .bytes b)))
 
   header-bytes : areBytes (headerBytes t) ≡ true
   unfolding headerBytes
   header-bytes =
-      append-bytes (be16 (maskOf (t .slots)) ++ (oneIf (t .remembers) ∷ length (t .ppas) ∷ []) ++ be32 (t .counter)) (padTo 80 (joined ppaBytes (t .ppas)))
+      append-bytes (be16 (maskOf (t .slots)) ++ (oneIf (t .remembers) ∷ length (t .ppas) ∷ []) ++ be32 (t .counter)) (padTo placesSize (joined ppaBytes (t .ppas)))
       (append-bytes (be16 (maskOf (t .slots)) ++ (oneIf (t .remembers) ∷ length (t .ppas) ∷ [])) (be32 (t .counter))
       (append-bytes (be16 (maskOf (t .slots))) (oneIf (t .remembers) ∷ length (t .ppas) ∷ []) (be16-bytes (maskOf (t .slots)) below)
       (byte (oneIf (t .remembers)) (length (t .ppas) ∷ []) (flag (t .remembers)) (byte (length (t .ppas)) [] (omega (arith, k .most)) refl)))
       (be32-bytes (t .counter) (k .small)))
-      (pad-bytes 80 (joined ppaBytes (t .ppas)) (joined-bytes ppaBytes noPpa (t .ppas) ppa-bytes))
+      (pad-bytes placesSize (joined ppaBytes (t .ppas)) (joined-bytes ppaBytes noPpa (t .ppas) ppa-bytes))
     where
       flag : (b : Bool) → oneIf b < 256
       flag true = omega arith

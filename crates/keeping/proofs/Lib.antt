@@ -13,6 +13,5 @@ pub mod Binds
 pub mod Effects
 pub mod Listeners
 pub mod Closes
-pub mod Read
 pub mod Kept
 pub mod Images

@@ -25,7 +25,7 @@ abbrev pub orderLines : Input → ℕ → ℕ → Telling → List Line
 orderLines q i c Untold = []
 orderLines q i c (Tells o) = orderLine q (namedBy i c o) o ∷ []
 
-abbrev pub flushLines : Bool → List Line
+abbrev flushLines : Bool → List Line
 flushLines true = Nothing ∷ []
 flushLines false = []
 

@@ -49,7 +49,7 @@ module _ (t : Table) (k : Sound t) (i : ℕ) (u : slot t i .isOpen ≡ true) (x 
   takes-good q c m o f a h l v w y =
       let d : (isAmong boundStates (stream t i) ≡ true) × (eqb (toState x) 9 ≡ true) = both-of _ _ h in
       let g : length (waiting t i) < stream t i .granted = ltb-true _ _ l in
-      let one : stream t i .mode ≡ 1 = allows (stream t i) (k .each i .bound (d .0)) .2 (omega arith) in
+      let one : stream t i .mode ≡ 1 = allows (stream t i) (k .each i .bound (d .0)) .some (omega arith) in
       let j : Fits (stream t i) (next x) = record { attached = λ _. bound-attached (number (stream t i)) (d .0); bound = λ _. d .0; connected = λ _. one } in
       record {
         kept = more-sound t k i (n .0) (onePast (n .0)) (next x) (omega arith) v w u j (d .1) g;
@@ -134,7 +134,7 @@ module _ (t : Table) (k : Sound t) (i : ℕ) (u : slot t i .isOpen ≡ true) (x 
             let six : number (stream t c) ≡ 6 = eqb-true _ _ (f .idle) in
             let b : isAmong boundStates (stream t c) ≡ true = ap (λ (m : ℕ). has m boundStates) six in
             carrier-good (slot t c) (unfold changed withNumbers withSlot in getD-set-other (t .slots) i c _ closed (f .other)) (f .isOpen) (ap (λ (m : ℕ). eqb m 9) six) b
-            (allows (stream t c) (k .each c .bound b) .1 (f .notConnectionless))
+            (allows (stream t c) (k .each c .bound b) .other (f .notConnectionless))
 
         -- the listener itself, of which no other number is open
         pub accept-here : c ≡ i → length (waiting t i) ≤ 1 → Good t q (done t i c m (accepting x (stream t i) n))

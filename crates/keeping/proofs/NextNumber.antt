@@ -10,7 +10,8 @@ use Rattle.ledger.specs.Tally.{sumOf, free}
 use Rattle.ledger.proofs.Tallies.{sum-most}
 use Rattle.ledger.proofs.Found.{finds}
 use Rattle.paper.specs.Base.{Slot, Table, closed}
-use Rattle.paper.specs.Correlations.{occurrences, nextNumber}
+use Rattle.paper.specs.Correlations.{occurrences, nextNumber, mostPassed}
+use Rattle.paper.specs.Saps.{mostOpen}
 use Rattle.table_image.specs.Layout.{tableOf, tidy}
 use Rattle.table_image.specs.Shape.{Shaped}
 use Rattle.table_image.proofs.TidyImage.{Tidy, tidy-parts, shaped-table}
@@ -19,9 +20,9 @@ use Rattle.table_image.proofs.TidyImage.{Tidy, tidy-parts, shaped-table}
 pub next-free : (t : Table) → Shaped t → t .counter < 2 ^ 32 → free (occurrences t) (nextNumber t) ≡ true
 unfolding occurrences nextNumber
 next-free t s h =
-    let most : 1 + sumOf (λ (x : Slot). length (x .waiting)) (t .slots) ≤ 129 =
-    omega (arith, sum-most (λ (x : Slot). length (x .waiting)) closed 8 (t .slots) (s .eight), s .sixteen) in
-    finds (λ (x : Slot). x .waiting) (t .slots) 129 (t .counter) h most (omega arith)
+    let most : 1 + sumOf (λ (x : Slot). length (x .waiting)) (t .slots) ≤ mostPassed =
+    omega (arith, sum-most (λ (x : Slot). length (x .waiting)) closed mostOpen (t .slots) (s .eight), s .sixteen) in
+    finds (λ (x : Slot). x .waiting) (t .slots) mostPassed (t .counter) h most (omega arith)
 
 -- the counter has four bytes
 pub counter-small : (img : List ℕ) → tidy img ≡ true → tableOf img .counter < 2 ^ 32

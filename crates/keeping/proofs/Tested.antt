@@ -7,20 +7,19 @@ use lib.ListN.{length, getD}
 use lib.Dec.{eqb, ltb, leb}
 use native.Mathlib.Omega.{arith}
 use borrow.Author.Tests.{eqb-true, eq-eqb, ltb-true, ltb-false, lt-ltb, leb-true, le-leb, not-true}
-use Rattle.octets.specs.Runs.{Bytes}
 use Rattle.ledger.specs.Choice.{pick, either}
 use Rattle.ledger.specs.Tally.{oneIf, occ, has, allOf}
 use Rattle.ledger.proofs.Tallies.{both-of, to-both, picked, all-at, at-all, nth}
 use Rattle.ledger.proofs.Sums.{sum-at, sum-some, all-occ, occ-all, all-sum, of-asks, to-asks}
-use Rattle.paper.specs.Base.{isIn, isAmong, boundStates, connectionStates, Slot, closed, Table, slot, stream, waiting, ppaNumbers, noPpa}
+use Rattle.paper.specs.Base.{isIn, isAmong, boundStates, connectionStates, Slot, closed, Table, slot, stream, waiting, ppaNumbers, noPpa, streamTotal}
 use Rattle.paper.specs.Saps.{asBindAllows, listens}
 use Rattle.paper.specs.Correlations.{occurrences}
-use Rattle.paper.specs.Sound.{every, sameAnswer, unbound, holdsNothing, openTests, soundSlot, isSingle, listenersOf, isAlone, soundTests, sound}
+use Rattle.paper.specs.Sound.{every, sameAnswer, unbound, holdsNothing, openTests, soundSlot, isSingle, listenersOf, isAlone, soundTests, sound, Bindless}
 use Rattle.paper.specs.declared.Stream.{Stream}
 use Rattle.paper.specs.declared.PpaNumber.{PpaNumber}
-use Rattle.keeping.specs.Soundness.{cap, Ok, Sound}
+use Rattle.keeping.specs.Soundness.{cap, Ok, Sound, IsMac}
 use Rattle.keeping.proofs.Changes.{ok-closed}
-use Rattle.paper.proofs.Saps.{listens-is}
+use Rattle.paper.proofs.Saps.{Listening, listens-is}
 use Rattle.paper.proofs.SoundTests.{no-bind, closed-is}
 
 to-same : (a b : Bool) → a ≡ b → sameAnswer a b ≡ true
@@ -42,8 +41,8 @@ slot-test ps x o = picked (λ (b : Bool). b ≡ true) (x .isOpen) (every (openTe
     (to-both _ _ (le-leb _ _ (o .few)) refl)))))
     (λ e. ap holdsNothing (o .shut e))
   where
-    bare : (x .stream .mode ≡ 0) × (x .stream .sap ≡ 0) × (x .stream .granted ≡ 0) → every (unbound (x .stream)) ≡ true
-    bare z = to-both _ _ (eq-eqb _ _ (z .0)) (to-both _ _ (eq-eqb _ _ (z .1)) (to-both _ _ (eq-eqb _ _ (z .2)) refl))
+    bare : Bindless (x .stream) → every (unbound (x .stream)) ≡ true
+    bare z = to-both _ _ (eq-eqb _ _ (z .mode)) (to-both _ _ (eq-eqb _ _ (z .sap)) (to-both _ _ (eq-eqb _ _ (z .granted)) refl))
 
 pub sound-test : (t : Table) → Sound t → sound t ≡ true
 unfolding sound isSingle isAlone
@@ -94,7 +93,7 @@ slot-tested ps x h = go (x .isOpen) refl h
     go false e h = none (closed-is x h e)
 
 -- with what the test takes for granted: sixteen streams, a counter of four bytes, MACs of six
-pub sound-tested : (t : Table) → length (t .slots) ≡ 16 → t .counter < 2 ^ 32 → ((j : ℕ) → (length (getD (t .ppas) j noPpa .mac) ≡ 6) × Bytes (getD (t .ppas) j noPpa .mac))
+pub sound-tested : (t : Table) → length (t .slots) ≡ streamTotal → t .counter < 2 ^ 32 → ((j : ℕ) → IsMac (getD (t .ppas) j noPpa .mac))
     → ((n : ℕ) → 2 ^ 32 ≤ n → occurrences t n ≡ 0) → ((p : ℕ) → 2 ^ 32 ≤ p → occ p (ppaNumbers t) ≡ 0) → sound t ≡ true → Sound t
 unfolding sound isSingle isAlone occurrences soundSlot holdsNothing
 sound-tested t l c a v w h = record {
@@ -123,9 +122,9 @@ sound-tested t l c a v w h = record {
     two p q true e h =
         let r : (i : ℕ) × (0 < oneIf (listens p q (stream t i))) = sum-some (λ (x : Slot). oneIf (listens p q (x .stream))) closed (t .slots) (ltb-true 0 (listenersOf t p q) e) in
         let s : Stream = stream t (r .0) in
-        let l : (0 < s .granted) × (s .ppa .0 ≡ p .0) × (s .sap ≡ q) = listens-is p q s (r .1) in
-        let u : leb (listenersOf t (s .ppa) (s .sap)) 1 ≡ true = of-asks (ltb 0 (s .granted)) _ (all-at (λ (x : Slot). isAlone t (x .stream)) closed refl (t .slots) h (r .0)) (lt-ltb _ _ (l .0)) in
-        let w : listenersOf t (s .ppa) (s .sap) ≡ listenersOf t p q = ap (λ (a : ℕ). listenersOf t (record { 0 = a }) (s .sap)) (l .1) ∙ ap (listenersOf t p) (l .2) in
+        let l : Listening p q s = listens-is p q s (r .1) in
+        let u : leb (listenersOf t (s .ppa) (s .sap)) 1 ≡ true = of-asks (ltb 0 (s .granted)) _ (all-at (λ (x : Slot). isAlone t (x .stream)) closed refl (t .slots) h (r .0)) (lt-ltb _ _ (l .some)) in
+        let w : listenersOf t (s .ppa) (s .sap) ≡ listenersOf t p q = ap (λ (a : ℕ). listenersOf t (record { 0 = a }) (s .sap)) (l .ppa) ∙ ap (listenersOf t p) (l .sap) in
         omega (arith, leb-true (listenersOf t (s .ppa) (s .sap)) 1 u, w)
     two p q false e h = omega (arith, ltb-false 0 (listenersOf t p q) e)
 

@@ -20,6 +20,7 @@ use Rattle.fates_book.proofs.Shades.{silent, shade, shades, fairs, rooteds, ope
 use Rattle.ledger.proofs.Sums.{there, put-in, put-same, put-cases}
 use Rattle.paper.specs.Base.{isAmong, boundStates, Slot, closed, justOpened, Table, slot, stream, waiting, withSlot, withNumbers, withStream, withCounter, remembering}
 use Rattle.paper.specs.declared.Stream.{Stream}
+use Rattle.paper.specs.Saps.{mostOpen}
 
 pub record Traced (s : ℕ) (t : Table) (ys : List Line) (u : Table) : Type 0 where
   pub shaded : waiting u s ≡ shades s ys (waiting t s)
@@ -89,11 +90,11 @@ module _ (t : Table) (i : ℕ) (o : slot t i .isOpen ≡ true) (x : Stream) (m :
       y : Slot
       y = record { isOpen = slot t i .isOpen; stream = x; waiting = without n (waiting t i) }
 
-  pub shows-more : (n c : ℕ) → length (waiting t i) < 8 → Shows t (Came i n ∷ []) (withNumbers (withCounter t c) i x (waiting t i ++ (n ∷ [])))
+  pub shows-more : (n c : ℕ) → length (waiting t i) < mostOpen → Shows t (Came i n ∷ []) (withNumbers (withCounter t c) i x (waiting t i ++ (n ∷ [])))
   unfolding withCounter withNumbers withSlot
   shows-more n c l s = record {
     shaded = put-in waitingOf closed (λ (w : List ℕ). w ++ (n ∷ [])) (t .slots) i s y (within isOpenOf closed refl (t .slots) i o) refl;
-    fairly = to-both _ true (there (λ (s : ℕ). ltb (length (waiting t s)) 8) s i (lt-ltb _ _ l)) refl;
+    fairly = to-both _ true (there (λ (s : ℕ). ltb (length (waiting t s)) mostOpen) s i (lt-ltb _ _ l)) refl;
     granted = λ g a. put-cases (λ (x : Slot). isAmong boundStates (x .stream) ≡ true → x .stream .granted ≡ g) closed (t .slots) i s y
         (λ e d. m d .1 ∙ ap (λ (j : ℕ). stream t j .granted) (sym e) ∙ a (rw e (m d .0))) a;
     rootedly = λ k a. to-both _ true (picked (λ (b : Bool). b ≡ true) (eqb s i) _ _ (λ e. lt-ltb 0 k (a (ap (λ (j : ℕ). slot t j .isOpen) (eqb-true s i e) ∙ o))) (λ e. refl)) refl;

@@ -1,2 +1,3 @@
+-- What it is that calls keep.
 pub mod Soundness
 pub mod RowsFit

@@ -9,7 +9,8 @@ use Rattle.ledger.specs.Choice.{both, either, asks}
 use Rattle.ledger.specs.Tally.{has, allOf}
 use Rattle.paper.specs.Base.{numberOf, stateOf, boundStates, connectionStates}
 use Rattle.paper.specs.Effects.{next}
-use Rattle.paper.specs.StateRows.{infoReq, bindReq, unbindReq, attachReq, detachReq, connectReq, connectRes, tokenReq, disconnectReq, resetReq, resetRes, callArrives, peerAccepted, peerGone, callWithdrawn, peerReset, resetConfirmed}
+use Rattle.paper.specs.StateRows.{infoReq, bindReq, unbindReq, attachReq, detachReq, connectReq, connectRes, tokenReq, disconnectReq}
+use Rattle.paper.specs.StateRows.{resetReq, resetRes, callArrives, peerAccepted, peerGone, callWithdrawn, peerReset, resetConfirmed}
 use Rattle.paper.specs.declared.StateRow.{StateRow}
 
 -- the numbers of the states that a row leads to
@@ -52,7 +53,7 @@ mayLose to last = both (eqb to 9) (both (not (eqb last 9)) (has last boundStates
 abbrev pub fitsStaying : StateRow → Bool
 fitsStaying x = asks (has (x .cause) (infoReq ∷ tokenReq ∷ [])) (either (eqb (x .to) (x .from)) (mayLead (x .from) (x .mode) (toState x)))
 
-abbrev pub movers : List ℕ
+abbrev movers : List ℕ
 movers = detachReq ∷ unbindReq ∷ connectReq ∷ resetReq ∷ resetRes ∷ peerAccepted ∷ peerGone ∷ peerReset ∷ resetConfirmed ∷ []
 
 abbrev pub fitsMoving : StateRow → Bool

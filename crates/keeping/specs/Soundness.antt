@@ -7,10 +7,10 @@ use lib.ListN.{length, getD}
 use lib.Dec.{ltb}
 use Rattle.octets.specs.Runs.{Bytes}
 use Rattle.ledger.specs.Tally.{occ, has}
-use Rattle.paper.specs.Base.{isIn, isAmong, boundStates, connectionStates, Slot, closed, Table, slot, ppaNumbers, noPpa}
+use Rattle.paper.specs.Base.{streamTotal, mostPpas, macSize, isIn, isAmong, boundStates, connectionStates, Slot, closed, Table, slot, ppaNumbers, noPpa}
 use Rattle.paper.specs.Saps.{asBindAllows}
 use Rattle.paper.specs.Correlations.{occurrences}
-use Rattle.paper.specs.Sound.{listenersOf}
+use Rattle.paper.specs.Sound.{Bindless, listenersOf}
 use Rattle.paper.specs.declared.PpaNumber.{PpaNumber}
 
 -- how often a correlation number may be open: 0 never, and one of four bytes once
@@ -25,7 +25,7 @@ pub record Ok (ps : List ℕ) (x : Slot) : Type 0 where
   pub loose : isIn 0 (x .stream) ≡ true → x .stream .ppa .0 ≡ 0
   pub attached : isIn 0 (x .stream) ≡ false → has (x .stream .ppa .0) ps ≡ true
   -- bound as BIND allows in the states that hold a binding
-  pub unbound : isAmong boundStates (x .stream) ≡ false → (x .stream .mode ≡ 0) × (x .stream .sap ≡ 0) × (x .stream .granted ≡ 0)
+  pub unbound : isAmong boundStates (x .stream) ≡ false → Bindless (x .stream)
   pub bound : isAmong boundStates (x .stream) ≡ true → asBindAllows (x .stream) ≡ true
   -- in mode 1 in the states of a connection
   pub connected : isAmong connectionStates (x .stream) ≡ true → x .stream .mode ≡ 1
@@ -33,8 +33,13 @@ pub record Ok (ps : List ℕ) (x : Slot) : Type 0 where
   pub nine : isIn 9 (x .stream) ≡ ltb 0 (length (x .waiting))
   pub few : length (x .waiting) ≤ x .stream .granted
 
+-- six bytes
+pub record IsMac (mac : List ℕ) : Type 0 where
+  pub six : length mac ≡ macSize
+  pub bytes : Bytes mac
+
 pub record Sound (t : Table) : Type 0 where
-  pub sixteen : length (t .slots) ≡ 16
+  pub sixteen : length (t .slots) ≡ streamTotal
   pub small : t .counter < 2 ^ 32
   -- past the table's end stands `closed`, which is Ok: no bound on i
   pub each : (i : ℕ) → Ok (ppaNumbers t) (slot t i)
@@ -44,8 +49,8 @@ pub record Sound (t : Table) : Type 0 where
   pub alone : (p : PpaNumber) (q : ℕ) → listenersOf t p q ≤ 1
   -- at most 8 PPAs, whose numbers differ, none over four bytes
   pub differ : (p : ℕ) → occ p (ppaNumbers t) ≤ min 1 (2 ^ 32 - p)
-  pub most : length (t .ppas) ≤ 8
+  pub most : length (t .ppas) ≤ mostPpas
   -- each with a MAC of 6 bytes
-  pub macs : (j : ℕ) → (length (getD (t .ppas) j noPpa .mac) ≡ 6) × Bytes (getD (t .ppas) j noPpa .mac)
+  pub macs : (j : ℕ) → IsMac (getD (t .ppas) j noPpa .mac)
   -- a table with an open stream remembers an opening
   pub recalls : t .remembers ≡ false → (i : ℕ) → slot t i .isOpen ≡ false

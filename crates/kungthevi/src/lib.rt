@@ -4,13 +4,14 @@ ghost use Rattle.paper.specs.RecordsIn.{recordSize};
 ghost use Rattle.call_outcomes.specs.Leaving.{left, callOf};
 ghost use Rattle.call_outcomes.specs.Fresh.{made, freshOf};
 use call_outcomes::NOT_SOUND;
+use table_image::IMAGE_SIZE;
 
 // Makes a fresh table: 0, or 16 where the length is wrong, and then the bytes stay as they stood.
 #[no_mangle]
 pub extern "C" fn kungthevi_fresh(table: &mut [u8]) -> u32
     ensures { λ n. ⌜ made n (now (table .exit)) ≡ freshOf (now (table .entry)) ⌝ }
 {
-    if table.len() != 760 {
+    if table.len() != IMAGE_SIZE {
         return NOT_SOUND as u32;
     }
     table_image::make_fresh(table);

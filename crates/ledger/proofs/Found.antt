@@ -42,7 +42,9 @@ module _ (x : ℕ) where
   far zero c h d = refl
   far (suc k) c h d = go (eqb c x) refl (far k ((c + 1) % 2 ^ 32) (omega arith))
     where
-      go : (b : Bool) → eqb c x ≡ b → (k ≤ (x + 2 ^ 32 - (c + 1) % 2 ^ 32) % 2 ^ 32 → sumAlong (λ n. oneIf (eqb n x)) k ((c + 1) % 2 ^ 32) ≡ 0) → oneIf b + sumAlong (λ n. oneIf (eqb n x)) k ((c + 1) % 2 ^ 32) ≡ 0
+      go : (b : Bool) → eqb c x ≡ b
+          → (k ≤ (x + 2 ^ 32 - (c + 1) % 2 ^ 32) % 2 ^ 32 → sumAlong (λ n. oneIf (eqb n x)) k ((c + 1) % 2 ^ 32) ≡ 0)
+          → oneIf b + sumAlong (λ n. oneIf (eqb n x)) k ((c + 1) % 2 ^ 32) ≡ 0
       go true e r = absurd (omega (arith, eqb-true c x e))
       go false e r = omega (arith, r (let m : c ≡ x → ⊥ = eqb-false c x e in omega arith))
 

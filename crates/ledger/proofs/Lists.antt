@@ -1,4 +1,4 @@
--- The elements of a list by their places: after a change, in a part, of a list that is made.
+-- The elements of a list by their places: a change is seen at its own place alone, and a list that is made has what made it.
 use Prim.Native.Nat.{ℕ, zero, suc, _<_, _+_}
 use mathlib.Core.Path.{_≡_, refl, ap, _∙_, sym}
 use mathlib.Core.List.{List, [], _∷_, map, _++_, append-assoc, append-nil}

@@ -39,11 +39,6 @@ occ-without m n (x ∷ l) = picked (λ (r : List ℕ). occ m r ≤ oneIf (eqb m 
 
 -- ---- sums over a list with one element replaced
 module _ {A : Type 0} (f : A → ℕ) (d : A) where
-  pub sum-set : (l : List A) (i : ℕ) (x : A) → i < length l → sumOf f (set l i x) + f (getD l i d) ≡ sumOf f l + f x
-  sum-set [] i x h = absurd (omega arith)
-  sum-set (y ∷ l) zero x h = omega arith
-  sum-set (y ∷ l) (suc i) x h = omega (arith, sum-set l i x (omega arith))
-
   -- with no bound on the place, where what stands for a missing element counts nothing
   pub sum-put : f d ≡ 0 → (l : List A) (i : ℕ) (x : A) → sumOf f (set l i x) + f (getD l i d) ≤ sumOf f l + f x
   sum-put z [] i x = omega arith

@@ -1,4 +1,4 @@
--- Laws of tests and counts, over any list.
+-- Laws of tests and counts, over any list: each holds element by element, from the first on.
 use Prim.Native.Nat.{ℕ, zero, suc, _+_, _*_, _≤_, _<_}
 use mathlib.Core.Path.{_≡_, refl, ap, sym, _∙_}
 use mathlib.Core.Bool.{Bool, true, false, not}
@@ -215,7 +215,10 @@ pub all-counted : {A : Type 0} (p : A → Bool) (l : List A) → eqb (sumOf (λ 
 all-counted {A = A} p l = go l .0
   where
     step : (b t : Bool) (m n : ℕ) → (eqb m n ≡ t) × (m ≤ n) → (eqb (oneIf b + m) (suc n) ≡ both b t) × (oneIf b + m ≤ suc n)
-    step true t m n h = (same-test (eqb (1 + m) (suc n)) t (λ e. sym (h .0) ∙ eq-eqb m n (omega (arith, eqb-true (1 + m) (suc n) e))) (λ e. eq-eqb (1 + m) (suc n) (omega (arith, eqb-true m n (h .0 ∙ e)))), omega (arith, h .1))
+    step true t m n h =
+        let fewer : eqb (1 + m) (suc n) ≡ true → t ≡ true = λ e. sym (h .0) ∙ eq-eqb m n (omega (arith, eqb-true (1 + m) (suc n) e)) in
+        let more : t ≡ true → eqb (1 + m) (suc n) ≡ true = λ e. eq-eqb (1 + m) (suc n) (omega (arith, eqb-true m n (h .0 ∙ e))) in
+        (same-test (eqb (1 + m) (suc n)) t fewer more, omega (arith, h .1))
     step false t m n h = (ne-eqb (0 + m) (suc n) (λ e. omega (arith, h .1)), omega (arith, h .1))
 
     go : (l : List A) → (eqb (sumOf (λ x. oneIf (p x)) l) (length l) ≡ allOf p l) × (sumOf (λ x. oneIf (p x)) l ≤ length l)

@@ -1,4 +1,4 @@
--- Blocks: what they hold, and what is written behind it.
+-- A block is its bytes and zeros up to its size: so what is written right behind them goes over zeros, and the block is that of both.
 use Prim.Native.Nat.{ℕ, _*_, _+_, _-_, _≤_, _<_}
 use native.Mathlib.Omega.{arith}
 use mathlib.Core.Path.{_≡_, refl, ap, _∙_}
@@ -6,7 +6,7 @@ use mathlib.Core.List.{List, [], _∷_, _++_, append-assoc, append-nil}
 use lib.ListN.{length, length-append, replicate, length-replicate, replicate-append-replicate, getD, take}
 use native.Mathlib.Numerals.{add-one}
 use lib.Seq.{take-suc, length-take-le}
-use Rattle.octets.specs.Blocks.{flat, pad, padTo}
+use Rattle.octets.specs.Blocks.{flat, pad, padTo, blockSize}
 use Rattle.octets.specs.Numbers.{be32}
 use Rattle.octets.specs.Runs.{paste}
 use Rattle.octets.proofs.Runs.{paste-middle}
@@ -37,11 +37,11 @@ pad-more h l s q n b e f =
     ∙ simp append-assoc
 
 -- a block: bytes behind those that it holds
-pub pad-at : (l s : List ℕ) (n : ℕ) → length l ≡ n → n + length s ≤ 96 → paste (pad l) n s ≡ pad (l ++ s)
-pad-at l s n e h = simp append-nil at (pad-more [] l s [] 96 n (omega (arith, e)) (omega arith))
+pub pad-at : (l s : List ℕ) (n : ℕ) → length l ≡ n → n + length s ≤ blockSize → paste (pad l) n s ≡ pad (l ++ s)
+pad-at l s n e h = simp append-nil at (pad-more [] l s [] blockSize n (omega (arith, e)) (omega arith))
 
 -- a block with one field more
-pub flat-more : (w : List ℕ) (i : ℕ) → i < length w → i < 24
+pub flat-more : (w : List ℕ) (i : ℕ) → i < length w → i * 4 < blockSize
     → paste (pad (flat (take i w))) (i * 4) (be32 (getD w i 0)) ≡ pad (flat (take (i + 1) w))
 flat-more w i h k =
     let m : length (flat (take i w)) ≡ i * 4 = omega (arith, flat-length (take i w), length-take-le i w (omega arith)) in

@@ -20,7 +20,13 @@ part-be16 c at n k m h e = omega (arith, part-byte c at n k m (omega arith) e, p
 
 pub part-be32 : (c : List ℕ) (at n k m : ℕ) → k + 3 < n → at + k ≡ m → be32At (part c at n) k ≡ be32At c m
 part-be32 c at n k m h e =
-    omega (arith, part-byte c at n k m (omega arith) e, part-byte c at n (k + 1) (m + 1) (omega arith) (omega arith), part-byte c at n (k + 2) (m + 2) (omega arith) (omega arith), part-byte c at n (k + 3) (m + 3) h (omega arith))
+    omega (
+      arith,
+      part-byte c at n k m (omega arith) e,
+      part-byte c at n (k + 1) (m + 1) (omega arith) (omega arith),
+      part-byte c at n (k + 2) (m + 2) (omega arith) (omega arith),
+      part-byte c at n (k + 3) (m + 3) h (omega arith),
+    )
 
 -- a number read out of its four bytes alone
 pub be32At-part : (c : List ℕ) (at : ℕ) → be32At (part c at 4) 0 ≡ be32At c at

@@ -1,4 +1,4 @@
--- Pieces of one width laid end to end: a piece read or replaced, zeros behind them.
+-- Pieces of one width laid end to end: piece i begins i widths on, so it is read or replaced there and the others stay.
 use Prim.Native.Nat.{ℕ, zero, suc, _+_, _-_, _*_, _≤_, _<_}
 use native.Mathlib.Omega.{arith}
 use native.Mathlib.Nat.{zero-mul, suc-mul}

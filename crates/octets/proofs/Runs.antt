@@ -1,4 +1,5 @@
--- Runs of bytes: tests of them, parts, a run over a list from a place on, bytes over the start of a room.
+-- Runs of bytes, by what stands before a place and what from it on: tests of them, parts, a run over a list, bytes over the start of
+-- a room.
 use Prim.Native.Nat.{ℕ, zero, suc, _+_, _<_, _≤_, _-_}
 use mathlib.Core.Path.{_≡_, refl, ap₂, sym, ap, _∙_}
 use mathlib.Core.Bool.{Bool, true, false, _&&_, false≢true, and-assoc}
@@ -19,7 +20,7 @@ use Rattle.ledger.proofs.Tallies.{all-at, at-all}
 -- ---- tests of runs
 
 -- runs that pass the test are equal
-pub same-equal : (a b : List ℕ) → sameBytes a b ≡ true → a ≡ b
+same-equal : (a b : List ℕ) → sameBytes a b ≡ true → a ≡ b
 same-equal [] [] h = refl
 same-equal [] (y ∷ b) h = absurd (false≢true h)
 same-equal (x ∷ a) [] h = absurd (false≢true h)
@@ -174,16 +175,6 @@ paste-nothing x at =
 pub paste-then : {y z : List ℕ} {r : ℕ} (x : List ℕ) (at : ℕ) (p q : List ℕ) → at ≤ length x → y ≡ paste x at p → r ≡ at + length p → z ≡ paste y r q → z ≡ paste x at (p ++ q)
 paste-then x at p q h a b c = c ∙ rw (a, b) (sym (paste-join x at p q h))
 
--- with the places behind them
-pub paste-after : {y z : List ℕ} {r e : ℕ} (x : List ℕ) (at : ℕ) (p q : List ℕ) → at ≤ length x
-    → (r ≡ at + length p) × (y ≡ paste x at p)
-    → (e ≡ r + length q) × (z ≡ paste y r q)
-    → (e ≡ at + length (p ++ q)) × (z ≡ paste x at (p ++ q))
-paste-after x at p q h a b = (omega (arith, a .0, b .0, length-append p q), paste-then x at p q h (a .1) (a .0) (b .1))
-
-pub paste-none : (out : List ℕ) (at : ℕ) → (at ≡ at + length {A = ℕ} []) × (out ≡ paste out at [])
-paste-none out at = (omega arith, sym (paste-nothing out at))
-
 -- ---- a room with bytes over its start
 
 -- bytes over what follows others, behind those
@@ -211,10 +202,3 @@ over-begins p l n ex en = ap (take n) ex ∙ take-at p (drop (length p) l) n (sy
 -- bytes from place 0 on are bytes over the start
 pub paste-start : (s l : List ℕ) → paste l 0 s ≡ over s l
 paste-start s l = rw zero-add
-
--- bytes right behind those that stand at the start
-pub paste-next : {x : List ℕ} (p q l : List ℕ) (n : ℕ) → x ≡ over p l → length p ≡ n → paste x n q ≡ over (p ++ q) l
-paste-next p q l n ex en =
-    ap₂ (λ (y : List ℕ) (k : ℕ). paste y k q) (ex ∙ sym (paste-start p l)) (sym (zero-add (length p) ∙ en))
-    ∙ sym (paste-join l 0 p q (omega arith))
-    ∙ paste-start (p ++ q) l

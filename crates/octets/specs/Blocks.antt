@@ -14,5 +14,8 @@ abbrev pub padTo : ℕ → List ℕ → List ℕ
 padTo n l = l ++ replicate (n - length l) 0
 
 -- a block
+abbrev pub blockSize : ℕ
+blockSize = 96
+
 abbrev pub pad : List ℕ → List ℕ
-pad l = padTo 96 l
+pad l = padTo blockSize l

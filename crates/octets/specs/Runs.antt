@@ -14,6 +14,10 @@ Bytes l = (k : ℕ) → getD l k 0 < 256
 abbrev pub areBytes : List ℕ → Bool
 areBytes l = allOf (λ (n : ℕ). ltb n 256) l
 
+-- No place that is read stands farther on: sums of places never wrap.
+abbrev pub farthest : ℕ
+farthest = 4096
+
 -- n bytes of a list from a place on
 abbrev pub part : List ℕ → ℕ → ℕ → List ℕ
 part l at n = take n (drop at l)

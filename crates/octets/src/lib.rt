@@ -1,11 +1,12 @@
 // Numbers and runs of bytes in slices: reading, writing, blocks of fields, tests of runs.
 ghost use mathlib.Core.Path.{_≡_};
 ghost use mathlib.Core.List.{_++_};
-ghost use Prim.Native.Nat.{_+_, _*_, _<_, _≤_};
+ghost use Prim.Native.Nat.{_+_, _*_, _≤_};
 ghost use lib.ListN.{length, getD};
 ghost use Rattle.octets.specs.Numbers.{be16At, be32At, be16, be32};
-ghost use Rattle.octets.specs.Runs.{part, paste, allZero, sameBytes};
-ghost use Rattle.octets.specs.Blocks.{flat, pad};
+ghost use Rattle.octets.specs.Runs.{farthest, part, paste, allZero, sameBytes};
+ghost use Rattle.octets.specs.Blocks.{flat, blockSize, pad};
+ghost use Rattle.ledger.specs.Few.{Few};
 
 // A byte, or 0 past the end.
 pub fn byte_at(s: &[u8], i: usize) -> u8
@@ -19,14 +20,14 @@ pub fn byte_at(s: &[u8], i: usize) -> u8
 
 // A byte as a number of four bytes.
 pub fn wide(x: u8) -> u32
-    ensures { λ r. ⌜ (r ≡ x) × (r < 256) ⌝ }
+    ensures { λ r. ⌜ Few 255 x r ⌝ }
 {
     x as u32
 }
 
 // The number in the two bytes at a place; a byte past the end is 0.
 pub fn number16_at(s: &[u8], at: usize) -> u16
-    requires { ⌜ at ≤ 4096 ⌝ }
+    requires { ⌜ at ≤ farthest ⌝ }
     ensures { λ r. ⌜ r ≡ be16At (now (s .entry)) at ⌝ }
 {
     let a = wide(byte_at(s, at));
@@ -36,7 +37,7 @@ pub fn number16_at(s: &[u8], at: usize) -> u16
 
 // The number in the four bytes at a place; a byte past the end is 0.
 pub fn number32_at(s: &[u8], at: usize) -> u32
-    requires { ⌜ at ≤ 4096 ⌝ }
+    requires { ⌜ at ≤ farthest ⌝ }
     ensures { λ r. ⌜ r ≡ be32At (now (s .entry)) at ⌝ }
 {
     let a = wide(byte_at(s, at));
@@ -99,12 +100,15 @@ pub fn put_number32(dst: &mut [u8], at: usize, v: u32)
     );
 }
 
+// A block.
+pub const BLOCK_SIZE: usize = 96;
+
 // A block of fields of four bytes each, zeros behind them.
-pub fn block_of(fields: &[u32]) -> [u8; 96]
-    requires { ⌜ length (now fields) ≤ 24 ⌝ }
+fn block_of(fields: &[u32]) -> [u8; BLOCK_SIZE]
+    requires { ⌜ length (now fields) * 4 ≤ blockSize ⌝ }
     ensures { λ r. ⌜ r ≡ pad (flat (now (fields .entry))) ⌝ }
 {
-    let mut block = [0u8; 96];
+    let mut block = [0u8; BLOCK_SIZE];
     let mut i = 0;
     while i < fields.len() {
         put_number32(&mut block, i * 4, fields[i]);
@@ -114,8 +118,8 @@ pub fn block_of(fields: &[u32]) -> [u8; 96]
 }
 
 // A block of fields with other bytes behind them, zeros behind those.
-pub fn block_with(fields: &[u32], tail: &[u8]) -> [u8; 96]
-    requires { ⌜ length (now fields) * 4 + length (now tail) ≤ 96 ⌝ }
+pub fn block_with(fields: &[u32], tail: &[u8]) -> [u8; BLOCK_SIZE]
+    requires { ⌜ length (now fields) * 4 + length (now tail) ≤ blockSize ⌝ }
     ensures { λ r. ⌜ r ≡ pad (flat (now (fields .entry)) ++ now (tail .entry)) ⌝ }
 {
     let mut block = block_of(fields);
@@ -155,7 +159,7 @@ pub fn same_bytes(a: &[u8], b: &[u8]) -> bool
 
 // Of n bytes from a place on, those that are there.
 pub fn part_at<'a>(s: &'a [u8], at: usize, n: usize) -> &'a [u8]
-    requires { ⌜ at + n ≤ 4096 ⌝ }
+    requires { ⌜ at + n ≤ farthest ⌝ }
     ensures { λ r. ⌜ now r ≡ part (now (s .entry)) at n ⌝ }
 {
     let len = s.len();

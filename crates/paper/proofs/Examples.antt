@@ -23,7 +23,12 @@ use Rattle.paper.specs.Step.{conclude, comes, ofOpen, message, arrives, 
 use Rattle.paper.specs.Examples.{Case, dueOf, cameOf, leadUp, onTheWay, starred, standsAfter}
 
 pub starred-hold : map cameOf (leadUp ++ starred) ≡ map dueOf (leadUp ++ starred)
-unfolding _⇒_∣_ stateOf lowestFree knows macOf withSlot withNumbers withStream withCounter withPpa remembering occurrences nextNumber carrierOf answerTo found changed carried enacted ordersIn behindReply upsIn told effectOf eventEffect judgeAttach judgeListening judgeBind judgeConnect judgeOther judgeItself judgeCarrier judgeAccept judgeDenial judgeDisconnect judgeRequest effectBy decideBy otherCode primitiveOf sized askedBy addsPpa opens goodbyes closes kindOf recordSize hasNonzeroPadding inputOf inOrder addressOf infoOf infoTail contentOf isSap isType grantOf asBindAllows listens listener isListenedFor holdsNothing soundSlot isSingle isAlone sound conclude comes ofOpen message arrives stepBy
+unfolding _⇒_∣_ stateOf lowestFree knows macOf withSlot withNumbers withStream withCounter withPpa remembering occurrences nextNumber
+    carrierOf answerTo found changed carried enacted ordersIn behindReply upsIn told effectOf eventEffect judgeAttach judgeListening
+    judgeBind judgeConnect judgeOther judgeItself judgeCarrier judgeAccept judgeDenial judgeDisconnect judgeRequest effectBy decideBy
+    otherCode primitiveOf sized askedBy addsPpa opens goodbyes closes kindOf recordSize hasNonzeroPadding inputOf inOrder addressOf infoOf
+    infoTail contentOf isSap isType grantOf asBindAllows listens listener isListenedFor holdsNothing soundSlot isSingle isAlone sound
+    conclude comes ofOpen message arrives stepBy
 starred-hold = refl
 
 -- The calls that lead up are one run from a fresh table: each begins with the table that the one before must leave,

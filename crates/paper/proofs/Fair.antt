@@ -11,8 +11,8 @@ use borrow.Author.Tests.{eqb-true, eqb-false, ltb-true, ltb-false, le-leb, not-t
 use Rattle.ledger.specs.Choice.{pick, both, either, _⇒_∣_}
 use Rattle.ledger.specs.Tally.{has}
 use Rattle.ledger.proofs.Tallies.{picked, chosen, either-no}
-use Rattle.paper.specs.Base.{isIn, Table, slot, stream, waiting, knows}
-use Rattle.paper.specs.Saps.{isSap, isType, grantOf, asBindAllows, isListenedFor}
+use Rattle.paper.specs.Base.{isIn, Table, slot, stream, waiting, knows, addressSize}
+use Rattle.paper.specs.Saps.{isSap, isType, grantOf, asBindAllows, isListenedFor, mostOpen}
 use Rattle.paper.specs.Messages.{codeIn, primitiveOf, otherCode, sized, readAs, askedBy}
 use Rattle.paper.specs.StateRows.{infoReq, bindReq, unbindReq, attachReq, detachReq, connectReq, connectRes, tokenReq, disconnectReq, resetReq, resetRes}
 use Rattle.paper.specs.Sight.{requestAsks, carrierOf, answerTo, sightBy, carrierAt}
@@ -58,9 +58,9 @@ pub record MayBind (t : Table) (i : ℕ) (b : BindRequest) : Type 0 where
 -- a connect that may be, in message m: its address lies behind the fields and within the message
 pub record MayConnect (m : List ℕ) (a : ConnectRequest) : Type 0 where
   pub noQos : a .qos ≡ 0
-  pub seven : a .length ≡ 7
+  pub seven : a .length ≡ addressSize
   pub behind : 24 ≤ a .offset
-  pub inside : a .offset + 7 ≤ length m
+  pub inside : a .offset + addressSize ≤ length m
   pub even : eqb (a .last % 2) 1 ≡ false
 
 -- an accept, of stream i, of a number that is open there, and with no QOS, whose token names this carrier
@@ -114,9 +114,9 @@ pub data Faulty (t : Table) (i : ℕ) : Request → Rule → Type 0 where
       → Faulty t i (request.Bind b) rule.ListenedFor
   -- 5. CONNECT_REQ
   connectQos : {a : ConnectRequest} → eqb (a .qos) 0 ≡ false → Faulty t i (request.Connect a) rule.ConnectQos
-  notSeven : {a : ConnectRequest} → eqb (a .length) 7 ≡ false → Faulty t i (request.Connect a) rule.AddressLength
+  notSeven : {a : ConnectRequest} → eqb (a .length) addressSize ≡ false → Faulty t i (request.Connect a) rule.AddressLength
   tooEarly : {a : ConnectRequest} → a .offset < 24 → Faulty t i (request.Connect a) rule.AddressTooEarly
-  tooLate : {a : ConnectRequest} → a .size < a .offset + 7 → Faulty t i (request.Connect a) rule.AddressTooLate
+  tooLate : {a : ConnectRequest} → a .size < a .offset + addressSize → Faulty t i (request.Connect a) rule.AddressTooLate
   odd : {a : ConnectRequest} → eqb (a .last % 2) 1 ≡ true → Faulty t i (request.Connect a) rule.AddressSapOdd
   -- 6. CONNECT_RES
   notOpen : {a : ConnectResponse} → has (a .correlation .0) (waiting t i) ≡ false → Faulty t i (request.ConnectRes a) rule.AcceptNotOpen
@@ -143,8 +143,8 @@ unfolding asBindAllows grantOf
 bind-allowed {b = b} h q p = go (eqb (b .mode) 1) (eqb (b .mode) 2) (isSap (b .sap)) (isType (b .sap)) (h .moded) (h .allowed) (h .untyped)
   where
     go : (one two sap type : Bool) → either one two ≡ true → either sap type ≡ true → both one type ≡ false
-        → either (both one (both sap (leb (pick two 0 (min (b .most) 8)) 8))) (both two (both (either sap type) (eqb (pick two 0 (min (b .most) 8)) 0))) ≡ true
-    go true two true false o a u = rw (le-leb (pick two 0 (min (b .most) 8)) 8 (picked (λ (g : ℕ). g ≤ 8) two 0 (min (b .most) 8) (λ e. omega arith) (λ e. omega arith)))
+        → either (both one (both sap (leb (pick two 0 (min (b .most) mostOpen)) mostOpen))) (both two (both (either sap type) (eqb (pick two 0 (min (b .most) mostOpen)) 0))) ≡ true
+    go true two true false o a u = rw (le-leb (pick two 0 (min (b .most) mostOpen)) mostOpen (picked (λ (g : ℕ). g ≤ mostOpen) two 0 (min (b .most) mostOpen) (λ e. omega arith) (λ e. omega arith)))
     go true two sap true o a u = absurd (false≢true (sym u))
     go true two false false o a u = absurd (false≢true a)
     go false true sap type o a u = rw a
@@ -156,7 +156,7 @@ unfolding grantOf
 bind-unheard {t} {i} {b} h = go (eqb (b .mode) 1) (eqb (b .mode) 2) (ltb 0 (b .most)) refl (isListenedFor t (stream t i .ppa) (b .sap)) (h .moded) (h .unheard)
   where
     go : (one two some : Bool) → ltb 0 (b .most) ≡ some → (listened : Bool) → either one two ≡ true → both one (both some listened) ≡ false
-        → 0 < pick two 0 (min (b .most) 8) → listened ≡ false
+        → 0 < pick two 0 (min (b .most) mostOpen) → listened ≡ false
     go true two true e l o u g = u
     go true true false e l o u g = absurd (omega arith)
     go true false false e l o u g = absurd (omega (arith, ltb-false 0 (b .most) e))
@@ -165,7 +165,7 @@ bind-unheard {t} {i} {b} h = go (eqb (b .mode) 1) (eqb (b .mode) 2) (ltb 0 (b .m
 
 -- ---- what a message that asks for a request has shown: its code is the request's, and a connect was read with the message's size
 
-abbrev pub sizeRead : ℕ → Request → ℕ
+abbrev sizeRead : ℕ → Request → ℕ
 sizeRead l request.Info = l
 sizeRead l request.Token = l
 sizeRead l (request.Attach p) = l
@@ -182,9 +182,9 @@ pub record Asks (m : List ℕ) (q : Request) : Type 0 where
   pub coded : codeIn m ≡ requestAsks q .cause
   pub measured : sizeRead (length m) q ≡ length m
 
-data Reads (m : List ℕ) : Asked → Type 0 where
-  wrong : {w : Rule} → Reads m (Wrong w)
-  right : {q : Request} → Asks m q → Reads m (For q)
+data ReadAs (m : List ℕ) : Asked → Type 0 where
+  wrong : {w : Rule} → ReadAs m (Wrong w)
+  right : {q : Request} → Asks m q → ReadAs m (For q)
 
 -- the code of a primitive that is served
 abbrev Coded : ℕ → Primitive → Type 0
@@ -214,11 +214,11 @@ coded code =
     P = Coded code
 
 module _ (m : List ℕ) where
-  of-size : (n : ℕ) (q : Request) → codeIn m ≡ requestAsks q .cause → sizeRead (length m) q ≡ length m → Reads m (sized n m q)
+  of-size : (n : ℕ) (q : Request) → codeIn m ≡ requestAsks q .cause → sizeRead (length m) q ≡ length m → ReadAs m (sized n m q)
   unfolding sized
-  of-size n q c h = chosen (Reads m) _ _ _ (λ e. wrong) (λ e. right (record { coded = c; measured = h }))
+  of-size n q c h = chosen (ReadAs m) _ _ _ (λ e. wrong) (λ e. right (record { coded = c; measured = h }))
 
-  reads : (p : Primitive) → Coded (codeIn m) p → Reads m (readAs p m)
+  reads : (p : Primitive) → Coded (codeIn m) p → ReadAs m (readAs p m)
   reads primitive.Info c = of-size 4 request.Info c refl
   reads primitive.Attach c = of-size 8 (request.Attach _) c refl
   reads primitive.Detach c = of-size 4 request.Detach c refl
@@ -237,7 +237,7 @@ module _ (m : List ℕ) where
   unfolding askedBy
   asks {q} e = of-right (readAs (primitiveOf (codeIn m)) m) (reads (primitiveOf (codeIn m)) (coded (codeIn m))) e
     where
-      of-right : (a : Asked) → Reads m a → a ≡ For q → Asks m q
+      of-right : (a : Asked) → ReadAs m a → a ≡ For q → Asks m q
       of-right (Wrong w) h e = absurd (let z : _≡_ {A = ℕ} 0 1 = cc in omega arith)
       of-right (For p) (right h) e = let z : p ≡ q = cc in rw z at h
 
@@ -278,28 +278,28 @@ module _ (t : Table) (i : ℕ) (m : List ℕ) where
       serves (acceptsOn f (record { isOpen = o; other = d; idle = not-false _ n; samePpa = eqb-true _ _ (not-false _ p); notConnectionless = e })))))
 
   -- every verdict on a request that message m asks for, by any row
-  pub fair : (x : StateRow) (q : Request) → Asks m q
+  pub judged-fairly : (x : StateRow) (q : Request) → Asks m q
       → Judged t i m q (carrierAt i (answerTo t i (At x) (requestAsks q .question) .carrier)) (judgeRequest (sightBy t i (At x) (requestAsks q .question)) q)
   unfolding answerTo judgeRequest judgeAttach judgeBind judgeListening judgeConnect judgeAccept judgeDisconnect judgeDenial
-  fair x request.Info s = serves informs
-  fair x request.Token s = serves tellsToken
-  fair x (request.Attach p) s = _ ⟹ (λ y. unknownPpa (not-true _ y)) ∣ (λ k. serves (attaches (not-false _ k)))
-  fair x request.Detach s = serves detaches
-  fair x (request.Bind b) s =
+  judged-fairly x request.Info s = serves informs
+  judged-fairly x request.Token s = serves tellsToken
+  judged-fairly x (request.Attach p) s = _ ⟹ (λ y. unknownPpa (not-true _ y)) ∣ (λ k. serves (attaches (not-false _ k)))
+  judged-fairly x request.Detach s = serves detaches
+  judged-fairly x (request.Bind b) s =
       _ ⟹ (λ y. unknownMode (not-true _ y)) ∣ (λ o. _ ⟹ (λ y. managed (not-true _ y)) ∣ (λ n. _ ⟹ (λ y. automatic (not-true _ y)) ∣ (λ a.
       _ ⟹ (λ y. notAllowed (not-true _ y)) ∣ (λ p. _ ⟹ typed ∣ (λ u. _ ⟹ listenedFor ∣ (λ h. serves (binds
       (record { moded = not-false _ o; unmanaged = eqb-true _ _ (not-false _ n); unautomatic = eqb-true _ _ (not-false _ a); allowed = not-false _ p; untyped = u; unheard = h }))))))))
-  fair x request.Unbind s = serves unbinds
-  fair x (request.Connect a) s =
+  judged-fairly x request.Unbind s = serves unbinds
+  judged-fairly x (request.Connect a) s =
       _ ⟹ (λ y. connectQos (not-true _ y)) ∣ (λ n. _ ⟹ (λ y. notSeven (not-true _ y)) ∣ (λ l. _ ⟹ (λ y. tooEarly (ltb-true _ _ y)) ∣ (λ f.
       _ ⟹ (λ y. tooLate (ltb-true _ _ y)) ∣ (λ g. _ ⟹ odd ∣ (λ e.
-      let u : a .offset + 7 ≤ a .size = ltb-false _ _ g in
+      let u : a .offset + addressSize ≤ a .size = ltb-false _ _ g in
       serves (connects (record { noQos = eqb-true _ _ (not-false _ n); seven = eqb-true _ _ (not-false _ l); behind = ltb-false _ _ f; inside = omega (arith, s .measured); even = e })))))))
-  fair x (request.ConnectRes a) s =
+  judged-fairly x (request.ConnectRes a) s =
       _ ⟹ (λ y. notOpen (not-true _ y)) ∣ (λ h. _ ⟹ (λ y. acceptQos (not-false _ h) (not-true _ y)) ∣ (λ n.
       fair-carrier a (carrierOf t i (a .token)) (named (a .token)) (record { numberOpen = not-false _ h; noQos = eqb-true _ _ (not-false _ n); names = refl })))
-  fair x (request.Disconnect d) s = chosen (Judged t i m (request.Disconnect d) i) _ _ _
+  judged-fairly x (request.Disconnect d) s = chosen (Judged t i m (request.Disconnect d) i) _ _ _
       (λ e. _ ⟹ (λ y. denialNotOpen e (not-true _ y)) ∣ (λ h. serves (denies e (not-false _ h))))
       (λ e. _ ⟹ (λ y. notZero e (not-true _ y)) ∣ (λ z. serves (disconnects e (eqb-true _ _ (not-false _ z)))))
-  fair x request.Reset s = serves resets
-  fair x request.ResetRes s = serves answersReset
+  judged-fairly x request.Reset s = serves resets
+  judged-fairly x request.ResetRes s = serves answersReset

@@ -1,5 +1,5 @@
--- How long the bytes are from which a record was read: its values all stand within them.
-use Prim.Native.Nat.{ℕ, _≤_}
+-- How long the bytes are from which a record was read: its values all stand within them, and are no larger than their bytes hold.
+use Prim.Native.Nat.{ℕ, _≤_, _<_, _^_}
 use native.Mathlib.Omega.{arith}
 use mathlib.Core.Path.{_≡_, refl, subst}
 use mathlib.Core.List.{List}
@@ -7,7 +7,9 @@ use lib.ListN.{length, getD}
 use lib.Dec.{eqb, leb}
 use borrow.Author.Tests.{leb-true, eqb-false}
 use Rattle.ledger.proofs.Tallies.{chosen}
-use Rattle.paper.specs.RecordsIn.{kindOf, sizeOf, recordSize, hasNonzeroPadding, inputAs, inputOf, streamIn, sizeIn}
+use Rattle.octets.specs.Numbers.{be32At}
+use Rattle.octets.specs.Runs.{Bytes}
+use Rattle.paper.specs.RecordsIn.{kindOf, messageSize, sizeOf, recordSize, hasNonzeroPadding, inputAs, inputOf, streamIn, sizeIn}
 use Rattle.paper.specs.declared.Kind.{Kind}
 use Rattle.paper.specs.declared.Kind.the-variants as kind
 use Rattle.paper.specs.declared.Input.{Input}
@@ -59,8 +61,38 @@ read-long r =
     (λ e. omega arith)
     (λ e. rw (size-as k r) (whole r (eqb-false _ _ e)))
 
-pub adds-long : (r : List ℕ) (p : PpaNumber) → inputOf r ≡ input.AddPpa p → 11 ≤ length r
+pub adds-long : (r : List ℕ) (p : PpaNumber) → inputOf r ≡ input.AddPpa p → sizeOf kind.AddPpa ≤ length r
 adds-long r p e = subst (λ (q : Input). leastSize q ≤ length r) e (read-long r)
+
+-- A record of bytes that adds a PPA was read whole, so that it has a MAC, and the four bytes of its number hold a number of four
+-- bytes.
+pub record Added (r : List ℕ) (p : PpaNumber) : Type 0 where
+  pub long : sizeOf kind.AddPpa ≤ length r
+  pub small : p .0 < 2 ^ 32
+
+abbrev pub AddsWhole : List ℕ → Input → Type 0
+AddsWhole r q = (p : PpaNumber) → q ≡ input.AddPpa p → Added r p
+
+-- no other kind adds one
+adds-as : (r : List ℕ) → Bytes r → (k : Kind) → sizeOf k ≤ length r → AddsWhole r (inputAs k r)
+adds-as r b kind.AddPpa l p e = record { long = l; small = let z : be32At r 1 ≡ p .0 = cc in omega (arith, b 1, b 2, b 3, b 4) }
+adds-as r b kind.Open l p e = absurd (let z : _≡_ {A = ℕ} 0 1 = cc in omega arith)
+adds-as r b kind.Close l p e = absurd (let z : _≡_ {A = ℕ} 0 1 = cc in omega arith)
+adds-as r b kind.Message l p e = chosen (AddsWhole r) _ _ _ (λ _ p e. absurd (let z : _≡_ {A = ℕ} 0 1 = cc in omega arith)) (λ _ p e. absurd (let z : _≡_ {A = ℕ} 0 1 = cc in omega arith)) p e
+adds-as r b kind.CallArrives l p e = absurd (let z : _≡_ {A = ℕ} 0 1 = cc in omega arith)
+adds-as r b kind.PeerAccepted l p e = absurd (let z : _≡_ {A = ℕ} 0 1 = cc in omega arith)
+adds-as r b kind.PeerGone l p e = absurd (let z : _≡_ {A = ℕ} 0 1 = cc in omega arith)
+adds-as r b kind.CallWithdrawn l p e = absurd (let z : _≡_ {A = ℕ} 0 1 = cc in omega arith)
+adds-as r b kind.PeerReset l p e = absurd (let z : _≡_ {A = ℕ} 0 1 = cc in omega arith)
+adds-as r b kind.ResetConfirmed l p e = absurd (let z : _≡_ {A = ℕ} 0 1 = cc in omega arith)
+adds-as r b kind.Unknown l p e = absurd (let z : _≡_ {A = ℕ} 0 1 = cc in omega arith)
+
+pub adds-whole : (r : List ℕ) → Bytes r → AddsWhole r (inputOf r)
+unfolding inputOf
+adds-whole r b =
+    let k : Kind = kindOf (getD r 0 0) in
+    chosen (AddsWhole r) _ _ _ (λ _ p e. absurd (let z : _≡_ {A = ℕ} 0 1 = cc in omega arith))
+    (λ h. adds-as r b k (whole r (eqb-false _ _ h)))
 
 -- a record lies within the bytes that it starts
 pub record-within : (r : List ℕ) → recordSize r ≤ length r
@@ -68,7 +100,7 @@ unfolding recordSize
 record-within r = chosen (λ (n : ℕ). n ≤ length r) _ _ _ (λ e. leb-true _ _ e) (λ e. omega arith)
 
 -- no record in is longer than a message
-size-most : (k : Kind) → sizeOf k ≤ 99
+size-most : (k : Kind) → sizeOf k ≤ messageSize
 size-most kind.AddPpa = omega arith
 size-most kind.Open = omega arith
 size-most kind.Close = omega arith
@@ -81,6 +113,6 @@ size-most kind.PeerReset = omega arith
 size-most kind.ResetConfirmed = omega arith
 size-most kind.Unknown = omega arith
 
-pub record-most : (r : List ℕ) → recordSize r ≤ 99
+pub record-most : (r : List ℕ) → recordSize r ≤ messageSize
 unfolding recordSize
-record-most r = chosen (λ (n : ℕ). n ≤ 99) _ _ _ (λ e. size-most (kindOf (getD r 0 0))) (λ e. omega arith)
+record-most r = chosen (λ (n : ℕ). n ≤ messageSize) _ _ _ (λ e. size-most (kindOf (getD r 0 0))) (λ e. omega arith)

@@ -4,9 +4,10 @@ use mathlib.Core.List.{[], _∷_, append-nil, List, _++_, map}
 use Prim.Native.Nat.{ℕ, _*_}
 use lib.ListN.{length}
 use native.Mathlib.Omega.{arith}
-use Rattle.paper.specs.RecordsOut.{Record, bytesOf, allBytes, inOrder}
+use Rattle.paper.specs.RecordsOut.{Record, disconnectSize, bytesOf, allBytes, inOrder}
 use Rattle.paper.specs.Openings.{goodbye}
-use Rattle.octets.specs.Runs.{over}
+use Rattle.octets.specs.Writing.{WroteMost}
+use Rattle.octets.proofs.Writing.{wrote-same}
 use Rattle.ledger.proofs.Lists.{joined-append}
 
 pub one-record : (r : Record) → allBytes (r ∷ []) ≡ bytesOf r
@@ -16,20 +17,12 @@ pub bytes-in-order : (a f u : List Record) → allBytes (inOrder a f u) ≡ allB
 unfolding inOrder
 bytes-in-order a f u = joined-append bytesOf (a ++ f) u ∙ ap (λ (l : List ℕ). l ++ allBytes u) (joined-append bytesOf a f)
 
-pub one-long : (r : Record) (n : ℕ) → n ≡ length (bytesOf r) → n ≡ length (allBytes (r ∷ []))
-one-long r n e = e ∙ ap length (sym (one-record r))
+-- one that is the same as the one to be written was written
+pub one-wrote : {most n : ℕ} {room room' : List ℕ} (r s : Record) → r ≡ s → WroteMost most (bytesOf r) 0 n room room'
+    → WroteMost most (allBytes (s ∷ [])) 0 n room room'
+one-wrote r s e w = wrote-same (ap bytesOf e ∙ sym (one-record s)) w
 
-pub one-over : (r : Record) (room room' : List ℕ) → room' ≡ over (bytesOf r) room → room' ≡ over (allBytes (r ∷ [])) room
-one-over r room room' e = e ∙ ap (λ (b : List ℕ). over b room) (sym (one-record r))
-
--- one that is the same as the one to be written
-pub same-long : (r s : Record) → r ≡ s → (n : ℕ) → n ≡ length (bytesOf r) → n ≡ length (allBytes (s ∷ []))
-same-long r s e n h = one-long s n (h ∙ ap (λ (x : Record). length (bytesOf x)) e)
-
-pub same-over : (r s : Record) → r ≡ s → (room room' : List ℕ) → room' ≡ over (bytesOf r) room → room' ≡ over (allBytes (s ∷ [])) room
-same-over r s e room room' h = one-over s room room' (h ∙ ap (λ (x : Record). over (bytesOf x) room) e)
-
--- each goodbye is ten bytes
-pub goodbyes-long : (i : ℕ) (w : List ℕ) → length (allBytes (map (goodbye i) w)) ≡ length w * 10
+-- each goodbye is a d
+pub goodbyes-long : (i : ℕ) (w : List ℕ) → length (allBytes (map (goodbye i) w)) ≡ length w * disconnectSize
 goodbyes-long i [] = refl
 goodbyes-long i (n ∷ w) = omega (arith, goodbyes-long i w)

@@ -18,12 +18,12 @@ use Rattle.paper.specs.Sound.{holdsNothing, soundSlot, isSingle, isAlone
 use Rattle.paper.specs.Step.{conclude, comes, ofOpen, message, arrives, stepBy, step}
 use Rattle.paper.specs.declared.State.the-variants.{InconPending}
 
-pub record Call : Type 0 where
+pub record Trial : Type 0 where
   pub table : Table
   pub lent : List ℕ
   pub room : ℕ
 
-abbrev call : Table → List ℕ → ℕ → Call
+abbrev call : Table → List ℕ → ℕ → Trial
 call t r n = record { table = t; lent = r; room = n }
 
 -- in state 9 with no open indication: not sound
@@ -38,7 +38,7 @@ messageTo i l = (80 ∷ i ∷ l ∷ []) ++ pad []
 abbrev elsewhere : List ℕ
 elsewhere = 73 ∷ be32 2 ++ own ++ peer
 
-abbrev calls : List Call
+abbrev calls : List Trial
 calls =
     call unsound [] 127
     ∷ call unattached [] 127
@@ -52,6 +52,7 @@ calls =
     ∷ call (ringing 3 (1 ∷ 2 ∷ [])) ringsIn 128
     ∷ []
 
-pub first-number : map (λ (x : Call). step (x .table) (x .lent) (x .room) .refusal) calls ≡ 16 ∷ 10 ∷ 1 ∷ 2 ∷ 5 ∷ 4 ∷ 7 ∷ 8 ∷ 8 ∷ []
-unfolding _⇒_∣_ lowestFree knows macOf occurrences nextNumber answerTo found decideBy kindOf recordSize hasNonzeroPadding inputOf isSap isType asBindAllows listens listener isListenedFor holdsNothing soundSlot isSingle isAlone sound conclude comes ofOpen message arrives stepBy
+pub first-number : map (λ (x : Trial). step (x .table) (x .lent) (x .room) .refusal) calls ≡ 16 ∷ 10 ∷ 1 ∷ 2 ∷ 5 ∷ 4 ∷ 7 ∷ 8 ∷ 8 ∷ []
+unfolding _⇒_∣_ lowestFree knows macOf occurrences nextNumber answerTo found decideBy kindOf recordSize hasNonzeroPadding inputOf
+    isSap isType asBindAllows listens listener isListenedFor holdsNothing soundSlot isSingle isAlone sound conclude comes ofOpen message arrives stepBy
 first-number = refl

@@ -16,23 +16,23 @@ use Rattle.paper.specs.declared.Stream.{Stream}
 use Rattle.paper.specs.declared.StateRow.{StateRow}
 use Rattle.paper.specs.declared.Found.the-variants.{At}
 
-record Taken (rows : List StateRow) (state mode cause : ℕ) (x : StateRow) : Type 0 where
+record FoundRow (rows : List StateRow) (state mode cause : ℕ) (x : StateRow) : Type 0 where
   fits : isRow state mode cause x ≡ true
   listed : (p : StateRow → Bool) → allOf p rows ≡ true → p x ≡ true
 
-taken : (rows : List StateRow) (state mode cause : ℕ) (x : StateRow) → foundIn rows state mode cause ≡ At x → Taken rows state mode cause x
+taken : (rows : List StateRow) (state mode cause : ℕ) (x : StateRow) → foundIn rows state mode cause ≡ At x → FoundRow rows state mode cause x
 taken [] state mode cause x h = absurd (let z : _≡_ {A = ℕ} 0 1 = cc in omega arith)
 taken (y ∷ rows) state mode cause x h = go (isRow state mode cause y) refl h (taken rows state mode cause x)
   where
     go : (b : Bool) → isRow state mode cause y ≡ b → pick b (At y) (foundIn rows state mode cause) ≡ At x
-        → (foundIn rows state mode cause ≡ At x → Taken rows state mode cause x) → Taken (y ∷ rows) state mode cause x
+        → (foundIn rows state mode cause ≡ At x → FoundRow rows state mode cause x) → FoundRow (y ∷ rows) state mode cause x
     go true e h r =
         let z : y ≡ x = cc in
         record { fits = ap (isRow state mode cause) (sym z) ∙ e; listed = λ p a. ap p (sym z) ∙ both-of _ _ a .0 }
     go false e h r = record { fits = r h .fits; listed = λ p a. r h .listed p (both-of (p y) (allOf p rows) a .1) }
 
 module _ (rows : List StateRow) (s : Stream) (cause : ℕ) {x : StateRow} (h : found rows s cause ≡ At x) where
-  row : Taken rows (number s) (s .mode) cause x
+  row : FoundRow rows (number s) (s .mode) cause x
   unfolding found
   row = taken rows (number s) (s .mode) cause x h
 

@@ -6,16 +6,18 @@ use mathlib.Core.Path.{_≡_, refl}
 use mathlib.Core.List.{List}
 use lib.ListN.{length}
 use Rattle.ledger.proofs.Tallies.{picked, chosen}
+use Rattle.octets.specs.Blocks.{blockSize}
 use Rattle.octets.proofs.Blocks.{content-length, pad-length}
 use Rattle.paper.specs.Base.{isAmong, toldStates}
-use Rattle.paper.specs.RecordsOut.{sizeOut, up, bytesOf}
+use Rattle.paper.specs.RecordsIn.{messageSize}
+use Rattle.paper.specs.RecordsOut.{startSize, sizeOut, up, bytesOf}
 use Rattle.paper.specs.Replies.{infoOf, fieldsOf, contentOf, replySize, addressBytes}
 use Rattle.paper.specs.declared.Stream.{Stream}
 use Rattle.paper.specs.declared.Reply.{Reply}
 use Rattle.paper.specs.declared.Reply.the-variants.{InfoAck, BindAck, ErrorAck, OkAck, ConnectInd, ConnectCon, TokenAck, DisconnectInd, ResetInd, ResetCon}
 
 -- unbound and bound, INFO_ACK has its 18 fields
-pub info-length : (s : Stream) → length (infoOf s) ≡ 18
+info-length : (s : Stream) → length (infoOf s) ≡ 18
 unfolding infoOf
 info-length s = picked (λ (l : List ℕ). length l ≡ 18) (isAmong toldStates s) _ _ (λ e. refl) (λ e. refl)
 
@@ -51,20 +53,16 @@ unfolding contentOf
 reply-size r tail = omega (arith, content-length (fieldsOf r) tail, fields-size r)
 
 -- a record out has at least its kind and its stream, and at most what a message has
-pub size-within : (k : ℕ) → (2 ≤ sizeOut k) × (sizeOut k ≤ 99)
+pub size-within : (k : ℕ) → (startSize ≤ sizeOut k) × (sizeOut k ≤ messageSize)
 unfolding sizeOut
 size-within k =
     chosen fits _ _ _ (λ e. omega arith)
     (λ e. chosen fits _ _ _ (λ e. omega arith) (λ e. chosen fits _ _ _ (λ e. omega arith) (λ e. chosen fits _ _ _ (λ e. omega arith) (λ e. omega arith))))
   where
     fits : ℕ → Type 0
-    fits n = (2 ≤ n) × (n ≤ 99)
+    fits n = (startSize ≤ n) × (n ≤ messageSize)
 
--- a message up whose fields and addresses fit the block takes 99 bytes
-pub up-size : (i : ℕ) (r : Reply) (tail : List ℕ) → length (fieldsOf r) * 4 + length tail ≤ 96 → length (bytesOf (up i r tail)) ≡ 99
+-- a message up whose fields and addresses fit the block has its size
+pub up-size : (i : ℕ) (r : Reply) (tail : List ℕ) → length (fieldsOf r) * 4 + length tail ≤ blockSize → length (bytesOf (up i r tail)) ≡ messageSize
 unfolding contentOf
-up-size i r tail h = omega (arith, pad-length 96 (contentOf r tail) (omega (arith, content-length (fieldsOf r) tail)))
-
--- so does any with at most 14 bytes behind its fields
-pub up-length : (s : ℕ) (r : Reply) (tail : List ℕ) → length tail ≤ 14 → length (bytesOf (up s r tail)) ≡ 99
-up-length s r tail h = up-size s r tail (omega (arith, fields-few r))
+up-size i r tail h = omega (arith, pad-length blockSize (contentOf r tail) (omega (arith, content-length (fieldsOf r) tail)))

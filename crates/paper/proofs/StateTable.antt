@@ -6,7 +6,8 @@ use lib.Dec.{eqb}
 use Rattle.ledger.specs.Choice.{pick, both}
 use Rattle.ledger.specs.Tally.{oneIf, has, sumOf, allOf}
 use Rattle.paper.specs.Base.{everyState}
-use Rattle.paper.specs.StateRows.{infoReq, bindReq, unbindReq, attachReq, detachReq, connectReq, connectRes, tokenReq, disconnectReq, resetReq, resetRes, callArrives, peerAccepted, peerGone, callWithdrawn, peerReset, resetConfirmed, Seat, seat, seats, leads, loses, stays, stateRows, isRow}
+use Rattle.paper.specs.StateRows.{infoReq, bindReq, unbindReq, attachReq, detachReq, connectReq, connectRes, tokenReq, disconnectReq, resetReq, resetRes, callArrives, peerAccepted}
+use Rattle.paper.specs.StateRows.{peerGone, callWithdrawn, peerReset, resetConfirmed, Seat, seat, seats, leads, loses, stays, stateRows, isRow}
 use Rattle.paper.specs.declared.StateRow.{StateRow}
 
 -- No two rows are for one state, mode and cause: the order of the list is not asked.

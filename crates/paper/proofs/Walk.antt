@@ -10,7 +10,7 @@ use lib.Dec.{ltb}
 use borrow.Author.Tests.{ltb-true, ltb-false, leb-false, le-ltb, not-false}
 use Rattle.ledger.specs.Choice.{both, _⇒_∣_}
 use Rattle.ledger.proofs.Tallies.{both-of, chosen, skip}
-use Rattle.paper.specs.Base.{closed, justOpened, Table, slot, stream, lowestFree, tokenOf, knows, macAt, withSlot, withPpa, remembering}
+use Rattle.paper.specs.Base.{closed, justOpened, Table, slot, stream, lowestFree, tokenOf, knows, macAt, withSlot, withPpa, remembering, streamTotal, mostPpas}
 use Rattle.paper.specs.RecordsIn.{inputOf, macIn, messageIn}
 use Rattle.paper.specs.RecordsOut.{up, inOrder}
 use Rattle.paper.specs.Refusals.{littleRoom, notOpen, allOpen, noCode, overLong, unexpected, nobodyThere, busy, noNewPpa, notARecord, notSound, Outcome, refused, served, servedOpening}
@@ -22,10 +22,10 @@ use Rattle.paper.specs.Openings.{addsPpa, opens, goodbyes, closes}
 use Rattle.paper.specs.StateRows.{found}
 use Rattle.paper.specs.Sight.{sends, brings, nothing, requestAsks, letterOf, answerTo, sightBy}
 use Rattle.paper.specs.ErrorCodes.{errorOf}
-use Rattle.paper.specs.ErrorOrder.{verdictBy, verdict, verdictOn}
+use Rattle.paper.specs.ErrorOrder.{verdictBy, verdictOn}
 use Rattle.paper.specs.Effects.{changed, carried, enacted, ordersIn, behindReply, upsIn, told, effectOf, eventEffect}
 use Rattle.paper.specs.Decide.{Decision, effectBy, isDue, decideBy}
-use Rattle.paper.specs.Step.{conclude, comes, ofOpen, message, arrives, serveBy, isReadable, stepBy}
+use Rattle.paper.specs.Step.{conclude, comes, ofOpen, message, arrives, serveBy, isReadable, stepBy, roomSize}
 use Rattle.paper.specs.declared.PpaNumber.{PpaNumber}
 use Rattle.paper.specs.declared.Correlation.{Correlation}
 use Rattle.paper.specs.declared.Input.{Input}
@@ -44,7 +44,8 @@ use Rattle.paper.specs.declared.Event.{Event}
 use Rattle.paper.specs.declared.Event.the-variants as event
 use Rattle.paper.specs.declared.Reply.the-variants as reply
 use Rattle.paper.specs.declared.Effect.{Effect}
-use Rattle.paper.proofs.Fair.{Asks, asks, Fair, Judged, fails, serves, fair}
+use Rattle.paper.proofs.Fair.{Asks, asks, Fair, Judged, fails, serves, judged-fairly}
+use Rattle.octets.specs.Blocks.{blockSize}
 
 -- ---- what comes of a message, and of an event
 
@@ -53,7 +54,7 @@ abbrev pub done : Table → ℕ → ℕ → List ℕ → Effect → Outcome
 done t i c m e = served (enacted t i c m e) (told i c (slot t i) (macAt t i) m e)
 
 -- an ERROR_ACK, and nothing else
-abbrev pub erring : Table → ℕ → ℕ → Rule → Outcome
+abbrev erring : Table → ℕ → ℕ → Rule → Outcome
 erring t i code w = served t (up i (reply.ErrorAck code (errorOf w)) [] ∷ [])
 
 -- A message that asks this is answered with the error of the first rule that applies, or is served by its row.
@@ -65,7 +66,7 @@ pub data Replied (rows : List StateRow) (t : Table) (i : ℕ) (m : List ℕ) : A
 
 -- That record in brings that event to stream i, past the tests that stand before the event.
 pub data Brings (t : Table) : Input → ℕ → Event → Type 0 where
-  arriving : {p : PpaNumber} {sap : ℕ} → knows t p ≡ true → listener t p sap < 16
+  arriving : {p : PpaNumber} {sap : ℕ} → knows t p ≡ true → listener t p sap < streamTotal
       → Brings t (input.CallArrives p sap) (listener t p sap) (event.Arrives (record { 0 = nextNumber t }))
   accepted : {i : ℕ} → slot t i .isOpen ≡ true → Brings t (input.PeerAccepted i) i event.Accepted
   gone : {i reason : ℕ} → slot t i .isOpen ≡ true → Brings t (input.PeerGone i reason) i (event.Gone reason)
@@ -79,21 +80,21 @@ pub data Brings (t : Table) : Input → ℕ → Event → Type 0 where
 -- a PPA that may be added
 pub record MayAdd (t : Table) (p : PpaNumber) : Type 0 where
   pub neverOpened : t .remembers ≡ false
-  pub few : length (t .ppas) < 8
+  pub few : length (t .ppas) < mostPpas
   pub new : knows t p ≡ false
 
 -- a message of l bytes to stream i, where refusals 2, 5 and 4 do not apply
 pub record Sent (t : Table) (i l : ℕ) : Type 0 where
   pub isOpen : slot t i .isOpen ≡ true
   pub coded : 4 ≤ l
-  pub whole : l ≤ 96
+  pub whole : l ≤ blockSize
 
 -- The call on record r, read as that input, comes to that outcome: by a refusal other than 16, by adding a PPA, by opening or closing a
 -- stream, by answering a message, or by bringing an event that is due.
 pub data Way (rows : List StateRow) (t : Table) (r : List ℕ) : Input → Outcome → Type 0 where
   refusing : {q : Input} {n : ℕ} → 0 < n → n < 16 → Way rows t r q (refused t n)
   adding : {p : PpaNumber} → MayAdd t p → Way rows t r (input.AddPpa p) (served (withPpa t (record { number = p; mac = macIn r })) [])
-  opening : lowestFree t < 16 → Way rows t r input.Open (servedOpening (withSlot (remembering t) (lowestFree t) justOpened) (lowestFree t))
+  opening : lowestFree t < streamTotal → Way rows t r input.Open (servedOpening (withSlot (remembering t) (lowestFree t) justOpened) (lowestFree t))
   closing : {i : ℕ} → slot t i .isOpen ≡ true → Way rows t r (input.Close i) (served (withSlot t i closed) (goodbyes i (slot t i)))
   answering : {i l : ℕ} {a : Asked} {o : Outcome} → Sent t i l → askedBy (messageIn r l) ≡ a → Replied rows t i (messageIn r l) a o
       → Way rows t r (input.Message i l) o
@@ -119,7 +120,7 @@ module _ (rows : List StateRow) (t : Table) where
         (conclude t i m (sightBy t i f (requestAsks q .question)) (decideBy (sightBy t i f (requestAsks q .question)) (sends (codeIn m) (For q)) f))
     unfolding conclude decideBy effectBy enacted changed carried told ordersIn upsIn behindReply inOrder
     by-found q s Missing h e = failing (sym e)
-    by-found q s (At x) h e = answered-by q x _ _ h (sym e) (fair t i m x q s)
+    by-found q s (At x) h e = answered-by q x _ _ h (sym e) (judged-fairly t i m x q s)
 
     -- what message m asks, decided and enacted
     pub answered : (a : Asked) → askedBy m ≡ a → Replied rows t i m a (comes rows t i m (sends (codeIn m) a))
@@ -189,7 +190,7 @@ module _ (rows : List StateRow) (t : Table) where
 
       -- On a sound table refusals 10 and 1 come before the record is served.
       pub step-by : (P : Outcome → Type 0) → sound t ≡ true → ((n : ℕ) → 0 < n → n < 16 → P (refused t n))
-          → (isReadable (inputOf r) ≡ true → 128 ≤ room → P (serveBy rows t r (inputOf r))) → P (stepBy rows t r room)
+          → (isReadable (inputOf r) ≡ true → roomSize ≤ room → P (serveBy rows t r (inputOf r))) → P (stepBy rows t r room)
       unfolding stepBy _⇒_∣_
       step-by P e f g =
           rw e (chosen P _ _ _ (λ _. f notARecord (omega arith) (omega arith))
@@ -209,17 +210,17 @@ module _ (rows : List StateRow) (t : Table) where
 
       -- ---- a message that no refusal stands before: it comes to its stream, and is answered
 
-      module _ {i l : ℕ} {a : Asked} (e : sound t ≡ true) (roomy : 128 ≤ room) (read : inputOf r ≡ input.Message i l) (s : Sent t i l)
+      module _ {i l : ℕ} {a : Asked} (e : sound t ≡ true) (roomy : roomSize ≤ room) (read : inputOf r ≡ input.Message i l) (s : Sent t i l)
           (asked : askedBy (messageIn r l) ≡ a) where
         pub message-comes : stepBy rows t r room ≡ comes rows t i (messageIn r l) (sends (codeIn (messageIn r l)) a)
         unfolding stepBy ofOpen message
         message-comes =
             skip (not (sound t)) _ _ (ap not e)
             ∙ skip (not (isReadable (inputOf r))) _ _ (ap (λ (p : Input). not (isReadable p)) read)
-            ∙ skip (ltb room 128) _ _ (le-ltb _ _ roomy)
+            ∙ skip (ltb room roomSize) _ _ (le-ltb _ _ roomy)
             ∙ ap (serveBy rows t r) read
             ∙ skip (not (slot t i .isOpen)) _ _ (ap not (s .isOpen))
-            ∙ skip (ltb 96 l) _ _ (le-ltb _ _ (s .whole))
+            ∙ skip (ltb blockSize l) _ _ (le-ltb _ _ (s .whole))
             ∙ skip (ltb l 4) _ _ (le-ltb _ _ (s .coded))
             ∙ ap (λ (w : Asked). comes rows t i (messageIn r l) (sends (codeIn (messageIn r l)) w)) asked
 

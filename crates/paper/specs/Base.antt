@@ -1,5 +1,5 @@
 -- 'What the base serves': the streams, the PPAs, the table.
-use Prim.Native.Nat.{ℕ, suc}
+use Prim.Native.Nat.{ℕ, suc, _+_}
 use mathlib.Core.Bool.{Bool, true, false, not}
 use mathlib.Core.List.{List, [], _∷_, _++_, map}
 use lib.ListN.{getD, set, replicate}
@@ -102,7 +102,20 @@ abbrev pub justOpened : Slot
 justOpened = record { isOpen = true; stream = noStream; waiting = [] }
 
 -- A table has 16 streams, numbered 0 to 15, and at most 8 PPAs, each with a 4-byte number and a 6-byte MAC.
--- It remembers whether a stream was ever opened, and has one counter for correlation numbers.
+abbrev pub streamTotal : ℕ
+streamTotal = 16
+
+abbrev pub mostPpas : ℕ
+mostPpas = 8
+
+abbrev pub macSize : ℕ
+macSize = 6
+
+-- an address as records have it, called or calling: the MAC, then 1 byte of SAP
+abbrev pub addressSize : ℕ
+addressSize = macSize + 1
+
+-- A table remembers whether a stream was ever opened, and has one counter for correlation numbers.
 pub record Table : Type 0 where
   pub remembers : Bool
   pub counter : ℕ
@@ -111,7 +124,7 @@ pub record Table : Type 0 where
 
 -- A fresh table has neither.
 abbrev pub fresh : Table
-fresh = record { remembers = false; counter = 1; ppas = []; slots = replicate 16 closed }
+fresh = record { remembers = false; counter = 1; ppas = []; slots = replicate streamTotal closed }
 
 -- The stream with a number. Past the table's end there is none that is open.
 abbrev pub slot : Table → ℕ → Slot
@@ -139,7 +152,7 @@ unfoldable pub knows : Table → PpaNumber → Bool
 knows t p = has (p .0) (ppaNumbers t)
 
 abbrev pub noPpa : Ppa
-noPpa = record { number = record { 0 = 0 }; mac = replicate 6 0 }
+noPpa = record { number = record { 0 = 0 }; mac = replicate macSize 0 }
 
 unfoldable pub macOf : Table → PpaNumber → List ℕ
 macOf t p = getD (t .ppas) (firstOf (λ (q : Ppa). eqb (q .number .0) (p .0)) (t .ppas)) noPpa .mac

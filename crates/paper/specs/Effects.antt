@@ -7,7 +7,7 @@ use lib.Dec.{eqb}
 use Rattle.ledger.specs.Choice.{pick}
 use Rattle.ledger.specs.Tally.{without}
 use Rattle.octets.specs.Runs.{part}
-use Rattle.paper.specs.Base.{stateOf, isIn, isAmong, joinedStates, attachedIn, settled, Slot, Table, stream, waiting, withNumbers, withStream, withCounter}
+use Rattle.paper.specs.Base.{addressSize, stateOf, isIn, isAmong, joinedStates, attachedIn, settled, Slot, Table, stream, waiting, withNumbers, withStream, withCounter}
 use Rattle.paper.specs.RecordsIn.{addressIn, calledIn, callingIn}
 use Rattle.paper.specs.Replies.{addressOf, infoTail}
 use Rattle.paper.specs.RecordsOut.{Record, order, up, flushIf, inOrder}
@@ -74,7 +74,7 @@ namedBy i c lineOrder.ResetAnswer = i
 -- What stands behind the fields of an order: of the message, or of what the stream's own slot keeps. (The base has c alone
 -- with any: the address, handed on as that part of the message.)
 abbrev pub behindOrder : Slot → List ℕ → LineOrder → List ℕ
-behindOrder own m (lineOrder.Connect at) = part m at 7
+behindOrder own m (lineOrder.Connect at) = part m at addressSize
 behindOrder own m (lineOrder.Accept n) = []
 behindOrder own m (lineOrder.Disconnect n reason) = []
 behindOrder own m lineOrder.Reset = []

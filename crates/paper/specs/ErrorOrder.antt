@@ -6,7 +6,7 @@ use lib.ListN.{length}
 use lib.Dec.{eqb, ltb}
 use Rattle.ledger.specs.Choice.{both, either, _⇒_∣_}
 use Rattle.ledger.specs.Tally.{has}
-use Rattle.paper.specs.Base.{isIn, Table}
+use Rattle.paper.specs.Base.{addressSize, isIn, Table}
 use Rattle.paper.specs.Saps.{isSap, isType, grantOf}
 use Rattle.paper.specs.Messages.{codeIn}
 use Rattle.paper.specs.Sight.{sends, Sight, sightOf}
@@ -60,9 +60,9 @@ judgeBind b listened =
 unfoldable pub judgeConnect : ConnectRequest → Verdict
 judgeConnect c =
     not (eqb (c .qos) 0) ⇒ Fails rule.ConnectQos
-    ∣ not (eqb (c .length) 7) ⇒ Fails rule.AddressLength
+    ∣ not (eqb (c .length) addressSize) ⇒ Fails rule.AddressLength
     ∣ ltb (c .offset) 24 ⇒ Fails rule.AddressTooEarly
-    ∣ ltb (c .size) (c .offset + 7) ⇒ Fails rule.AddressTooLate
+    ∣ ltb (c .size) (c .offset + addressSize) ⇒ Fails rule.AddressTooLate
     ∣ eqb (c .last % 2) 1 ⇒ Fails rule.AddressSapOdd
     ∣ Serves (service.Connect (c .offset))
 

@@ -7,7 +7,7 @@ use mathlib.Core.List.{List, [], _∷_, _++_, map}
 use lib.ListN.{replicate}
 use Rattle.octets.specs.Numbers.{be32}
 use Rattle.octets.specs.Blocks.{flat, pad}
-use Rattle.paper.specs.Base.{closed, Table, fresh}
+use Rattle.paper.specs.Base.{closed, Table, fresh, streamTotal}
 use Rattle.paper.specs.RecordsOut.{allBytes}
 use Rattle.paper.specs.Refusals.{Outcome}
 use Rattle.paper.specs.Step.{step}
@@ -16,14 +16,14 @@ use Rattle.paper.specs.declared.Stream.{Stream}
 use Rattle.paper.specs.declared.Ppa.{Ppa}
 
 -- P and C, in and out: stream 0, length L, 96 bytes of block, zero behind the content
-abbrev pub P : ℕ → List ℕ → List ℕ
+abbrev P : ℕ → List ℕ → List ℕ
 P l content = (80 ∷ 0 ∷ l ∷ []) ++ pad content
 
-abbrev pub C : ℕ → List ℕ → List ℕ
+abbrev C : ℕ → List ℕ → List ℕ
 C l content = (67 ∷ 0 ∷ l ∷ []) ++ pad content
 
 -- the PPA's MAC, the address of stream 0 once bound, and the peer's
-abbrev pub mac : List ℕ
+abbrev mac : List ℕ
 mac = 2 ∷ 0 ∷ 0 ∷ 0 ∷ 0 ∷ 1 ∷ []
 
 abbrev pub own : List ℕ
@@ -35,64 +35,64 @@ peer = 2 ∷ 0 ∷ 0 ∷ 0 ∷ 0 ∷ 2 ∷ 0x84 ∷ []
 -- ---- records in
 
 -- G 00000001 020000000001
-abbrev pub addPpa : List ℕ
+abbrev addPpa : List ℕ
 addPpa = 71 ∷ be32 1 ++ mac
 
 -- O
-abbrev pub openStream : List ℕ
+abbrev openStream : List ℕ
 openStream = 79 ∷ []
 
 -- I 00000001 02000000000180 02000000000284
 abbrev pub ringsIn : List ℕ
 ringsIn = 73 ∷ be32 1 ++ own ++ peer
 
-abbrev pub infoMessage : List ℕ
+abbrev infoMessage : List ℕ
 infoMessage = P 4 (flat (0x00 ∷ []))
 
-abbrev pub attachMessage : List ℕ
+abbrev attachMessage : List ℕ
 attachMessage = P 8 (flat (0x0b ∷ 1 ∷ []))
 
 -- mode 1, conn_mgmt 0
-abbrev pub bindMessage : ℕ → ℕ → List ℕ
+abbrev bindMessage : ℕ → ℕ → List ℕ
 bindMessage sap most = P 20 (flat (0x01 ∷ sap ∷ most ∷ 0x00010000 ∷ 0 ∷ []))
 
 -- the address stands at 24
-abbrev pub connectMessage : ℕ → List ℕ
+abbrev connectMessage : ℕ → List ℕ
 connectMessage offset = P 31 (flat (0x0d ∷ 7 ∷ offset ∷ 0 ∷ 0 ∷ 0 ∷ []) ++ peer)
 
 -- token 0: on the same stream
-abbrev pub acceptMessage : ℕ → List ℕ
+abbrev acceptMessage : ℕ → List ℕ
 acceptMessage n = P 24 (flat (0x0f ∷ n ∷ 0 ∷ 0 ∷ 0 ∷ 0 ∷ []))
 
 -- ---- records out
 
 -- INFO_ACK in order: 1497, 0, address length, 0, 0, state, SAP length, mode, 0, 0, 0, 0, 0x0501, address offset, 2, 6,
 -- broadcast offset, 0; then the address if bound, then six bytes of 0xff.
-abbrev pub infoAckUnattached : List ℕ
+abbrev infoAckUnattached : List ℕ
 infoAckUnattached =
     C 82 (flat (0x03 ∷ 1497 ∷ 0 ∷ 0 ∷ 0 ∷ 0 ∷ 0 ∷ 0 ∷ 3 ∷ 0 ∷ 0 ∷ 0 ∷ 0 ∷ 0x0501 ∷ 0 ∷ 2 ∷ 6 ∷ 76 ∷ 0 ∷ []) ++ replicate 6 0xff)
 
-abbrev pub infoAckBound : List ℕ
+abbrev infoAckBound : List ℕ
 infoAckBound =
     C 89
     (flat (0x03 ∷ 1497 ∷ 0 ∷ 7 ∷ 0 ∷ 0 ∷ 6 ∷ 0xffffffff ∷ 1 ∷ 0 ∷ 0 ∷ 0 ∷ 0 ∷ 0x0501 ∷ 76 ∷ 2 ∷ 6 ∷ 83 ∷ 0 ∷ []) ++ own ++ replicate 6 0xff)
 
 -- SAP, address length, offset 24, max_conind, xidtest 0; address
-abbrev pub bindAck : ℕ → List ℕ
+abbrev bindAck : ℕ → List ℕ
 bindAck granted = C 31 (flat (0x04 ∷ 0x80 ∷ 7 ∷ 24 ∷ granted ∷ 0 ∷ []) ++ own)
 
 -- request code, error (BADADDR 1, BADPRIM 9, PENDING 0x1b), 0
-abbrev pub errorAck : ℕ → ℕ → List ℕ
+abbrev errorAck : ℕ → ℕ → List ℕ
 errorAck request error = C 16 (flat (0x05 ∷ request ∷ error ∷ 0 ∷ []))
 
-abbrev pub okAck : ℕ → List ℕ
+abbrev okAck : ℕ → List ℕ
 okAck request = C 8 (flat (0x06 ∷ request ∷ []))
 
-abbrev pub connectInd : ℕ → List ℕ
+abbrev connectInd : ℕ → List ℕ
 connectInd n = P 50 (flat (0x0e ∷ n ∷ 7 ∷ 36 ∷ 7 ∷ 43 ∷ 0 ∷ 0 ∷ 0 ∷ []) ++ own ++ peer)
 
 -- c: stream 0, called
-abbrev pub connect : List ℕ
+abbrev connect : List ℕ
 connect = 99 ∷ 0 ∷ peer
 
 -- ---- tables: PPA 1 alone, and of the streams at most stream 0 open
@@ -101,7 +101,7 @@ abbrev pub ppa : Ppa
 ppa = record { number = record { 0 = 1 }; mac = mac }
 
 abbrev pub noneOpened : Table
-noneOpened = record { remembers = false; counter = 1; ppas = ppa ∷ []; slots = replicate 16 closed }
+noneOpened = record { remembers = false; counter = 1; ppas = ppa ∷ []; slots = replicate streamTotal closed }
 
 -- the counter, how stream 0 stands, its open indications
 abbrev pub streamZero : ℕ → Stream → List ℕ → Table
@@ -132,16 +132,16 @@ pub record Seen : Type 0 where
   pub bytes : List ℕ
   pub table : Table
 
-abbrev pub seenOf : Outcome → Seen
+abbrev seenOf : Outcome → Seen
 seenOf o = record { refusal = o .refusal; token = o .opened; bytes = allBytes (o .records); table = o .table }
 
-abbrev pub refuses : ℕ → Table → Seen
+abbrev refuses : ℕ → Table → Seen
 refuses n t = record { refusal = n; token = 0; bytes = []; table = t }
 
-abbrev pub opensWith : ℕ → Table → Seen
+abbrev opensWith : ℕ → Table → Seen
 opensWith token t = record { refusal = 0; token = token; bytes = []; table = t }
 
-abbrev pub writes : List ℕ → Table → Seen
+abbrev writes : List ℕ → Table → Seen
 writes bytes t = record { refusal = 0; token = 0; bytes = bytes; table = t }
 
 pub record Case : Type 0 where

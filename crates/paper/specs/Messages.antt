@@ -6,6 +6,7 @@ use lib.Dec.{eqb, ltb}
 use Rattle.ledger.specs.Choice.{_⇒_∣_}
 use Rattle.ledger.specs.Tally.{has}
 use Rattle.octets.specs.Numbers.{be16At, be32At}
+use Rattle.paper.specs.Base.{macSize}
 use Rattle.paper.specs.declared.Primitive.{Primitive}
 use Rattle.paper.specs.declared.Primitive.the-variants as primitive
 use Rattle.paper.specs.declared.Request.{Request}
@@ -54,7 +55,7 @@ readAs primitive.Bind m =
     (request.Bind (record { sap = be32At m 4; most = be32At m 8; mode = be16At m 12; management = be16At m 14; xidtest = be32At m 16 }))
 readAs primitive.Connect m =
     sized 24 m
-    (request.Connect (record { length = be32At m 4; offset = be32At m 8; qos = be32At m 12; size = length m; last = getD m (be32At m 8 + 6) 0 }))
+    (request.Connect (record { length = be32At m 4; offset = be32At m 8; qos = be32At m 12; size = length m; last = getD m (be32At m 8 + macSize) 0 }))
 readAs primitive.ConnectRes m =
     sized 24 m (request.ConnectRes (record { correlation = record { 0 = be32At m 4 }; token = record { 0 = be32At m 8 }; qos = be32At m 12 }))
 readAs primitive.Token m = sized 4 m request.Token

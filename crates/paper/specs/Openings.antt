@@ -4,7 +4,7 @@ use mathlib.Core.List.{List, [], _∷_, map}
 use lib.ListN.{length}
 use lib.Dec.{ltb, leb}
 use Rattle.ledger.specs.Choice.{_⇒_∣_}
-use Rattle.paper.specs.Base.{isIn, isAmong, callingStates, Slot, closed, justOpened, Table, slot, lowestFree, knows, withSlot, withPpa, remembering}
+use Rattle.paper.specs.Base.{streamTotal, mostPpas, isIn, isAmong, callingStates, Slot, closed, justOpened, Table, slot, lowestFree, knows, withSlot, withPpa, remembering}
 use Rattle.paper.specs.RecordsOut.{Record, order}
 use Rattle.paper.specs.Refusals.{allOpen, noNewPpa, Outcome, refused, served, servedOpening}
 use Rattle.paper.specs.declared.PpaNumber.{PpaNumber}
@@ -14,14 +14,14 @@ use Rattle.paper.specs.declared.LineOrder.the-variants as lineOrder
 unfoldable pub addsPpa : Table → PpaNumber → List ℕ → Outcome
 addsPpa t p mac =
     t .remembers ⇒ refused t noNewPpa
-    ∣ leb 8 (length (t .ppas)) ⇒ refused t noNewPpa
+    ∣ leb mostPpas (length (t .ppas)) ⇒ refused t noNewPpa
     ∣ knows t p ⇒ refused t noNewPpa
     ∣ served (withPpa t (record { number = p; mac = mac })) []
 
 -- O: the lowest free stream, unless all 16 are open
 unfoldable pub opens : Table → Outcome
 opens t =
-    ltb (lowestFree t) 16 ⇒ servedOpening (withSlot (remembering t) (lowestFree t) justOpened) (lowestFree t)
+    ltb (lowestFree t) streamTotal ⇒ servedOpening (withSlot (remembering t) (lowestFree t) justOpened) (lowestFree t)
     ∣ refused t allOpen
 
 -- a d with reason 0

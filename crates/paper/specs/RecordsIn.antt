@@ -7,6 +7,8 @@ use lib.Dec.{eqb, leb}
 use Rattle.ledger.specs.Choice.{both, _⇒_∣_}
 use Rattle.octets.specs.Numbers.{be32At}
 use Rattle.octets.specs.Runs.{part, allZero}
+use Rattle.octets.specs.Blocks.{blockSize}
+use Rattle.paper.specs.Base.{macSize, addressSize}
 use Rattle.paper.specs.declared.Kind.{Kind}
 use Rattle.paper.specs.declared.Kind.the-variants as kind
 use Rattle.paper.specs.declared.Input.{Input}
@@ -28,14 +30,21 @@ kindOf b =
     ∣ eqb b 83 ⇒ kind.ResetConfirmed  -- S
     ∣ kind.Unknown
 
+-- P and C, in and out: the kind's byte, stream and L, then the block
+abbrev pub headSize : ℕ
+headSize = 1 + 1 + 1
+
+abbrev pub messageSize : ℕ
+messageSize = headSize + blockSize
+
 -- The kind's byte and the body. An unknown kind has no size.
 abbrev pub sizeOf : Kind → ℕ
-sizeOf kind.AddPpa = 1 + 4 + 6
+sizeOf kind.AddPpa = 1 + 4 + macSize
 sizeOf kind.Open = 1
 sizeOf kind.Close = 1 + 1
-sizeOf kind.Message = 1 + 1 + 1 + 96
-sizeOf kind.CallArrives = 1 + 4 + 7 + 7
-sizeOf kind.PeerAccepted = 1 + 1 + 7
+sizeOf kind.Message = messageSize
+sizeOf kind.CallArrives = 1 + 4 + addressSize + addressSize
+sizeOf kind.PeerAccepted = 1 + 1 + addressSize
 sizeOf kind.PeerGone = 1 + 1 + 4
 sizeOf kind.CallWithdrawn = 1 + 1 + 4 + 4
 sizeOf kind.PeerReset = 1 + 1 + 4
@@ -55,26 +64,26 @@ sizeIn r = getD r 2 0
 
 -- The block's bytes past L are zero. With L over 96 there are none.
 unfoldable pub hasNonzeroPadding : List ℕ → Bool
-hasNonzeroPadding r = both (leb (sizeIn r) 96) (not (allZero (part r (3 + sizeIn r) (96 - sizeIn r))))
+hasNonzeroPadding r = both (leb (sizeIn r) blockSize) (not (allZero (part r (headSize + sizeIn r) (blockSize - sizeIn r))))
 
 -- the L bytes of the message
 abbrev pub messageIn : List ℕ → ℕ → List ℕ
-messageIn r l = part r 3 l
+messageIn r l = part r headSize l
 
 -- G: number, MAC
 abbrev pub macIn : List ℕ → List ℕ
-macIn r = part r 5 6
+macIn r = part r 5 macSize
 
 -- I: PPA, called, calling. An address is the MAC, then the SAP.
 abbrev pub calledIn : List ℕ → List ℕ
-calledIn r = part r 5 7
+calledIn r = part r 5 addressSize
 
 abbrev pub callingIn : List ℕ → List ℕ
-callingIn r = part r 12 7
+callingIn r = part r 12 addressSize
 
 -- A: stream, address
 abbrev pub addressIn : List ℕ → List ℕ
-addressIn r = part r 2 7
+addressIn r = part r 2 addressSize
 
 -- The record's values, by its kind.
 abbrev pub inputAs : Kind → List ℕ → Input

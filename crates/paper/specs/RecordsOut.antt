@@ -1,5 +1,5 @@
 -- 'Records', the ones out. They are values first; `bytesOf` gives their bytes.
-use Prim.Native.Nat.{ℕ}
+use Prim.Native.Nat.{ℕ, _+_}
 use mathlib.Core.Bool.{Bool, true, false}
 use mathlib.Core.List.{List, [], _∷_, _++_}
 use lib.ListN.{length}
@@ -8,6 +8,8 @@ use Rattle.ledger.specs.Choice.{pick, either, _⇒_∣_}
 use Rattle.ledger.specs.Lists.{joined}
 use Rattle.octets.specs.Numbers.{be32}
 use Rattle.octets.specs.Blocks.{pad}
+use Rattle.paper.specs.Base.{addressSize}
+use Rattle.paper.specs.RecordsIn.{messageSize}
 use Rattle.paper.specs.Replies.{goesAsC, contentOf}
 use Rattle.paper.specs.declared.LineOrder.{LineOrder}
 use Rattle.paper.specs.declared.LineOrder.the-variants as lineOrder
@@ -54,11 +56,27 @@ inOrder orders flushes ups = orders ++ flushes ++ ups
 abbrev pub isMessage : ℕ → Bool
 isMessage k = either (eqb k 80) (eqb k 67)  -- P, C
 
+-- The kind's byte and the stream, which start every record out: all of F, r and s.
+abbrev pub startSize : ℕ
+startSize = 1 + 1
+
+-- c: called
+abbrev pub connectSize : ℕ
+connectSize = startSize + addressSize
+
+-- a: correlation
+abbrev pub acceptSize : ℕ
+acceptSize = startSize + 4
+
+-- d: correlation, reason
+abbrev pub disconnectSize : ℕ
+disconnectSize = startSize + 4 + 4
+
 -- The size of a record out, by its kind.
 unfoldable pub sizeOut : ℕ → ℕ
 sizeOut k =
-    isMessage k ⇒ 99
-    ∣ eqb k 99 ⇒ 9  -- c: stream, called address
-    ∣ eqb k 97 ⇒ 6  -- a: stream, correlation
-    ∣ eqb k 100 ⇒ 10  -- d: stream, correlation, reason
-    ∣ 2  -- F, r, s: stream
+    isMessage k ⇒ messageSize
+    ∣ eqb k 99 ⇒ connectSize  -- c
+    ∣ eqb k 97 ⇒ acceptSize  -- a
+    ∣ eqb k 100 ⇒ disconnectSize  -- d
+    ∣ startSize  -- F, r, s

@@ -6,7 +6,7 @@ use lib.ListN.{replicate}
 use lib.Dec.{ltb}
 use Rattle.ledger.specs.Choice.{pick}
 use Rattle.octets.specs.Blocks.{flat}
-use Rattle.paper.specs.Base.{number, isAmong, toldStates}
+use Rattle.paper.specs.Base.{macSize, addressSize, number, isAmong, toldStates}
 use Rattle.paper.specs.declared.Stream.{Stream}
 use Rattle.paper.specs.declared.Reply.{Reply}
 use Rattle.paper.specs.declared.Reply.the-variants.{InfoAck, BindAck, ErrorAck, OkAck, ConnectInd, ConnectCon, TokenAck, DisconnectInd, ResetInd, ResetCon}
@@ -25,8 +25,12 @@ addressOf mac sap = mac ++ sapBytes sap
 abbrev pub sapLength : ℕ → ℕ
 sapLength sap = pick (ltb sap 256) 1 2
 
-abbrev pub addressLength : ℕ → ℕ
-addressLength sap = 6 + sapLength sap
+abbrev addressLength : ℕ → ℕ
+addressLength sap = macSize + sapLength sap
+
+-- with a type it is the longest
+abbrev pub mostAddress : ℕ
+mostAddress = macSize + 2
 
 -- INFO_ACK in order, with the five fields that differ from stream to stream
 abbrev pub infoFields : ℕ → ℕ → ℕ → ℕ → ℕ → List ℕ
@@ -43,7 +47,12 @@ infoOf s =
 
 -- then the address if bound, then six bytes of 0xff
 unfoldable pub infoTail : List ℕ → Stream → List ℕ
-infoTail mac s = pick (isAmong toldStates s) (addressOf mac (s .sap)) [] ++ replicate 6 0xff
+infoTail mac s = pick (isAmong toldStates s) (addressOf mac (s .sap)) [] ++ replicate macSize 0xff
+
+-- At most so much stands behind the fields of a message up: called and calling, or as much of INFO_ACK's, an address with
+-- a type and the six bytes.
+abbrev pub mostTail : ℕ
+mostTail = addressSize + addressSize
 
 -- The code, and the fields after it.
 abbrev pub fieldsOf : Reply → List ℕ
@@ -76,14 +85,14 @@ replySize (DisconnectInd reason n) = 16
 replySize (ResetInd reason) = 12
 replySize ResetCon = 4
 
--- how many bytes of address a size counts: called and calling, 7 each; the address
+-- how many bytes of address a size counts: called and calling; the address
 abbrev pub addressBytes : Reply → ℕ
 addressBytes (InfoAck s) = 0
 addressBytes (BindAck sap granted) = 0
 addressBytes (ErrorAck code error) = 0
 addressBytes (OkAck code) = 0
-addressBytes (ConnectInd n) = 7 + 7
-addressBytes ConnectCon = 7
+addressBytes (ConnectInd n) = addressSize + addressSize
+addressBytes ConnectCon = addressSize
 addressBytes (TokenAck k) = 0
 addressBytes (DisconnectInd reason n) = 0
 addressBytes (ResetInd reason) = 0

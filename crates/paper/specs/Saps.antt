@@ -5,7 +5,7 @@ use mathlib.Core.List.{List, [], _∷_}
 use lib.Dec.{eqb, ltb, leb}
 use Rattle.ledger.specs.Choice.{pick, both, either}
 use Rattle.ledger.specs.Tally.{has, firstOf}
-use Rattle.paper.specs.Base.{Slot, Table}
+use Rattle.paper.specs.Base.{streamTotal, Slot, Table}
 use Rattle.paper.specs.declared.Stream.{Stream}
 use Rattle.paper.specs.declared.PpaNumber.{PpaNumber}
 
@@ -25,13 +25,16 @@ unfoldable pub isType : ℕ → Bool
 isType n = both (leb 0x600 n) (both (leb n 0xffff) (not (has n reservedTypes)))
 
 -- The count granted is the smaller of that asked and 8; in mode 2 it is 0.
+abbrev pub mostOpen : ℕ
+mostOpen = 8
+
 unfoldable pub grantOf : ℕ → ℕ → ℕ
-grantOf mode most = pick (eqb mode 2) 0 (min most 8)
+grantOf mode most = pick (eqb mode 2) 0 (min most mostOpen)
 
 -- What a bind may leave: mode 1 (connection) with a SAP, mode 2 (connectionless) with a SAP or a type, what is granted.
 unfoldable pub asBindAllows : Stream → Bool
 asBindAllows s =
-    either (both (eqb (s .mode) 1) (both (isSap (s .sap)) (leb (s .granted) 8)))
+    either (both (eqb (s .mode) 1) (both (isSap (s .sap)) (leb (s .granted) mostOpen)))
     (both (eqb (s .mode) 2) (both (either (isSap (s .sap)) (isType (s .sap))) (eqb (s .granted) 0)))
 
 -- A stream listens from a bind that granted over 0 until unbind or close.
@@ -43,4 +46,4 @@ unfoldable pub listener : Table → PpaNumber → ℕ → ℕ
 listener t p sap = firstOf (λ (x : Slot). listens p sap (x .stream)) (t .slots)
 
 unfoldable pub isListenedFor : Table → PpaNumber → ℕ → Bool
-isListenedFor t p sap = ltb (listener t p sap) 16
+isListenedFor t p sap = ltb (listener t p sap) streamTotal

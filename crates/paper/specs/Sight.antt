@@ -7,7 +7,8 @@ use lib.Dec.{eqb}
 use Rattle.ledger.specs.Choice.{either, _⇒_∣_}
 use Rattle.paper.specs.Base.{Slot, Table, slot, stream, tokenOf, knows, macAt}
 use Rattle.paper.specs.Saps.{isListenedFor}
-use Rattle.paper.specs.StateRows.{infoReq, bindReq, unbindReq, attachReq, detachReq, connectReq, connectRes, tokenReq, disconnectReq, resetReq, resetRes, callArrives, peerAccepted, peerGone, callWithdrawn, peerReset, resetConfirmed, found}
+use Rattle.paper.specs.StateRows.{infoReq, bindReq, unbindReq, attachReq, detachReq, connectReq, connectRes, tokenReq, disconnectReq}
+use Rattle.paper.specs.StateRows.{resetReq, resetRes, callArrives, peerAccepted, peerGone, callWithdrawn, peerReset, resetConfirmed, found}
 use Rattle.paper.specs.declared.PpaNumber.{PpaNumber}
 use Rattle.paper.specs.declared.Token.{Token}
 use Rattle.paper.specs.declared.Carrier.{Carrier}
@@ -67,7 +68,7 @@ letterOf (event.Resets reason) = peerReset
 letterOf event.Confirmed = resetConfirmed
 
 -- A message that is no served request asks nothing. Its code is taken for a cause, but what row that finds is not read.
-abbrev pub askingOf : Coming → Asking
+abbrev askingOf : Coming → Asking
 askingOf (sends code (Wrong r)) = code asking nothing
 askingOf (sends code (For q)) = requestAsks q
 askingOf (brings refusal e) = letterOf e asking nothing

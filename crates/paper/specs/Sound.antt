@@ -1,13 +1,14 @@
 -- 'Refusal numbers': what a sound table is, clause by clause. What is marked as decided is not said by the paper's
 -- sentence on sound tables, but taken so in docs/DECISIONS.md, 5.
 use Prim.Native.Nat.{ℕ}
+use mathlib.Core.Path.{_≡_}
 use mathlib.Core.Bool.{Bool, true, false, not}
 use mathlib.Core.List.{List, [], _∷_}
 use lib.ListN.{length}
 use lib.Dec.{eqb, ltb, leb}
 use Rattle.ledger.specs.Choice.{pick, both, either, asks}
 use Rattle.ledger.specs.Tally.{occ, has, oneIf, sumOf, allOf}
-use Rattle.paper.specs.Base.{isIn, isAmong, boundStates, connectionStates, Slot, Table, ppaNumbers}
+use Rattle.paper.specs.Base.{mostPpas, isIn, isAmong, boundStates, connectionStates, Slot, Table, ppaNumbers}
 use Rattle.paper.specs.Saps.{asBindAllows, listens}
 use Rattle.paper.specs.Correlations.{occurrences}
 use Rattle.paper.specs.declared.Stream.{Stream}
@@ -23,6 +24,12 @@ sameAnswer false b = not b
 -- nothing of a bind
 abbrev pub unbound : Stream → List Bool
 unbound s = eqb (s .mode) 0 ∷ eqb (s .sap) 0 ∷ eqb (s .granted) 0 ∷ []
+
+-- as facts
+pub record Bindless (s : Stream) : Type 0 where
+  pub mode : s .mode ≡ 0
+  pub sap : s .sap ≡ 0
+  pub granted : s .granted ≡ 0
 
 -- a closed stream holds nothing
 unfoldable pub holdsNothing : Slot → Bool
@@ -66,7 +73,7 @@ remembersOpenings t = either (t .remembers) (allOf (λ (x : Slot). not (x .isOpe
 abbrev pub soundTests : Table → List Bool
 soundTests t =
     -- at most 8 PPAs (decided to be a clause: a sentence of 'What the base serves')
-    leb (length (t .ppas)) 8
+    leb (length (t .ppas)) mostPpas
     -- PPA numbers differ
     ∷ allOf (λ (p : ℕ). leb (occ p (ppaNumbers t)) 1) (ppaNumbers t)
     ∷ allOf (soundSlot (ppaNumbers t)) (t .slots)

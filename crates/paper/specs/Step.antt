@@ -7,7 +7,8 @@ use lib.ListN.{take}
 use lib.Dec.{ltb}
 use Rattle.ledger.specs.Choice.{_⇒_∣_}
 use Rattle.octets.specs.Runs.{sameBytes}
-use Rattle.paper.specs.Base.{Table, slot, knows, macOf}
+use Rattle.octets.specs.Blocks.{blockSize}
+use Rattle.paper.specs.Base.{macSize, Table, slot, knows, macOf}
 use Rattle.paper.specs.RecordsIn.{inputOf, macIn, calledIn, messageIn}
 use Rattle.paper.specs.Refusals.{littleRoom, notOpen, noCode, overLong, unexpected, nobodyThere, busy, notARecord, notSound, Outcome, refused, served}
 use Rattle.paper.specs.Saps.{listener, isListenedFor}
@@ -43,13 +44,13 @@ ofOpen t i o = not (slot t i .isOpen) ⇒ refused t notOpen ∣ o
 -- A message: 5, then 4.
 unfoldable pub message : List StateRow → Table → ℕ → ℕ → List ℕ → Outcome
 message rows t i l m =
-    ltb 96 l ⇒ refused t overLong ∣ ltb l 4 ⇒ refused t noCode ∣ comes rows t i m (sends (codeIn m) (askedBy m))
+    ltb blockSize l ⇒ refused t overLong ∣ ltb l 4 ⇒ refused t noCode ∣ comes rows t i m (sends (codeIn m) (askedBy m))
 
 -- I comes to the listener for its PPA and SAP, with the next number: 7, then 8.
 unfoldable pub arrives : List StateRow → Table → PpaNumber → ℕ → List ℕ → Outcome
 arrives rows t p sap r =
     not (knows t p) ⇒ refused t nobodyThere
-    ∣ not (sameBytes (take 6 (calledIn r)) (macOf t p)) ⇒ refused t nobodyThere
+    ∣ not (sameBytes (take macSize (calledIn r)) (macOf t p)) ⇒ refused t nobodyThere
     ∣ not (isListenedFor t p sap) ⇒ refused t nobodyThere
     ∣ comes rows t (listener t p sap) r (brings busy (event.Arrives (record { 0 = nextNumber t })))
 
@@ -82,12 +83,16 @@ isReadable (input.CallWithdrawn i n reason) = true
 isReadable (input.PeerReset i reason) = true
 isReadable (input.ResetConfirmed i) = true
 
--- Order of tests: 16, 10, 1, 2, 5, 4, then the rest. A call needs 128 bytes of room, however little it writes.
+-- A call needs 128 bytes of room, however little it writes.
+abbrev pub roomSize : ℕ
+roomSize = 128
+
+-- Order of tests: 16, 10, 1, 2, 5, 4, then the rest.
 unfoldable pub stepBy : List StateRow → Table → List ℕ → ℕ → Outcome
 stepBy rows t r room =
     not (sound t) ⇒ refused t notSound
     ∣ not (isReadable (inputOf r)) ⇒ refused t notARecord
-    ∣ ltb room 128 ⇒ refused t littleRoom
+    ∣ ltb room roomSize ⇒ refused t littleRoom
     ∣ serveBy rows t r (inputOf r)
 
 abbrev pub step : Table → List ℕ → ℕ → Outcome

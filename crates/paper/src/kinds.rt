@@ -1,6 +1,11 @@
 // Records out as they stand in the room, by the letter of their kind.
 ghost use mathlib.Core.Path.{_≡_};
 ghost use Rattle.paper.specs.RecordsOut.{isMessage, sizeOut};
+use crate::ACCEPT_SIZE;
+use crate::CONNECT_SIZE;
+use crate::DISCONNECT_SIZE;
+use crate::MESSAGE_SIZE;
+use crate::START_SIZE;
 
 pub fn is_message(kind: u8) -> bool
     ensures { λ q. ⌜ q ≡ isMessage kind ⌝ }
@@ -13,16 +18,16 @@ pub fn size_out(kind: u8) -> usize
     ensures { λ n. ⌜ n ≡ sizeOut kind ⌝ }
 {
     if is_message(kind) {
-        return 99;
+        return MESSAGE_SIZE;
     }
     if kind == b'c' {
-        return 9;
+        return CONNECT_SIZE;
     }
     if kind == b'a' {
-        return 6;
+        return ACCEPT_SIZE;
     }
     if kind == b'd' {
-        return 10;
+        return DISCONNECT_SIZE;
     }
-    2
+    START_SIZE
 }

@@ -12,6 +12,40 @@ pub use states::is_connection;
 pub use states::is_joined;
 pub use states::tells_binding;
 
+// The sizes that the paper names: a table's streams and PPAs, a MAC, the most open indications of a stream and of a table, the
+// room that a call needs.
+pub const STREAM_TOTAL: usize = 16;
+
+pub const MOST_PPAS: usize = 8;
+
+pub const MAC_SIZE: usize = 6;
+
+pub const MOST_OPEN: usize = 8;
+
+pub const MOST_NUMBERS: usize = STREAM_TOTAL * MOST_OPEN;
+
+pub const ROOM_SIZE: usize = 128;
+
+// The sizes of addresses: called or calling, the longest, and what is at most behind the fields of a message up.
+pub const ADDRESS_SIZE: usize = MAC_SIZE + 1;
+
+pub const MOST_ADDRESS: usize = MAC_SIZE + 2;
+
+pub const MOST_TAIL: usize = ADDRESS_SIZE + ADDRESS_SIZE;
+
+// The sizes of records: what stands before a message's block, and the whole of it; what starts every record out; c, a, d.
+pub const HEAD_SIZE: usize = 3;
+
+pub const MESSAGE_SIZE: usize = HEAD_SIZE + octets::BLOCK_SIZE;
+
+pub const START_SIZE: usize = 2;
+
+pub const CONNECT_SIZE: usize = START_SIZE + ADDRESS_SIZE;
+
+pub const ACCEPT_SIZE: usize = START_SIZE + 4;
+
+pub const DISCONNECT_SIZE: usize = START_SIZE + 4 + 4;
+
 // What the paper calls unlike quantities: no one can stand for another.
 pub struct Token(pub u32);
 
@@ -21,7 +55,7 @@ pub struct PpaNumber(pub u32);
 
 pub struct Ppa {
     pub number: PpaNumber,
-    pub mac: [u8; 6],
+    pub mac: [u8; MAC_SIZE],
 }
 
 // The states that stand between calls.

@@ -125,7 +125,7 @@ fn accepting(x: StateRow, s: Stream, n: Correlation) -> Effect
 }
 
 // Row x serves a request of the stream with token k, which stands as s.
-pub fn effect_of(x: StateRow, k: Token, s: Stream, v: Service) -> Effect
+fn effect_of(x: StateRow, k: Token, s: Stream, v: Service) -> Effect
     ensures { λ e. ⌜ e ≡ effectOf x k s v ⌝ }
 {
     match v {

@@ -1,1 +1,2 @@
+-- What the code of the state rows means.
 pub mod Courses

@@ -5,10 +5,12 @@ ghost use lib.Dec.{eqb, ltb};
 ghost use Rattle.ledger.specs.Choice.{both, either};
 ghost use Rattle.paper.specs.Saps.{isType};
 ghost use Rattle.paper.specs.ErrorOrder.{judgeAttach, judgeListening, judgeBind, judgeConnect, judgeOther, judgeItself, judgeCarrier, judgeAccept, judgeDenial, judgeDisconnect};
+ghost use Rattle.paper_rules.specs.Keepable.{Keepable};
 use crate::saps::grant_of;
 use crate::saps::is_sap_or_type;
 use crate::saps::is_type;
 use crate::streams::state_number;
+use paper::ADDRESS_SIZE;
 use paper::BindRequest;
 use paper::Carrier;
 use paper::ConnectRequest;
@@ -56,7 +58,7 @@ fn listens_too(b: BindRequest, listened: bool) -> bool
 
 // 4. BIND, where the SAP may be bound.
 fn judge_listening(b: BindRequest, listened: bool) -> Verdict
-    requires { ⌜ b .mode < 256 × b .sap < 65536 ⌝ }
+    requires { ⌜ Keepable b ⌝ }
     ensures { λ r. ⌜ r ≡ judgeListening b listened ⌝ }
 {
     if connects_to_type(b) {
@@ -95,7 +97,7 @@ pub fn judge_connect(c: ConnectRequest) -> Verdict
     if c.qos != 0 {
         return Verdict::Fails(Rule::ConnectQos);
     }
-    if c.length != 7 {
+    if c.length != ADDRESS_SIZE as u32 {
         return Verdict::Fails(Rule::AddressLength);
     }
     let at = c.offset;
@@ -103,7 +105,7 @@ pub fn judge_connect(c: ConnectRequest) -> Verdict
         return Verdict::Fails(Rule::AddressTooEarly);
     }
     // the sum does not wrap
-    let end = at as u64 + 7;
+    let end = at as u64 + ADDRESS_SIZE as u64;
     if (c.size as u64) < end {
         return Verdict::Fails(Rule::AddressTooLate);
     }

@@ -2,10 +2,11 @@
 ghost use mathlib.Core.Path.{_≡_};
 ghost use Rattle.ledger.specs.Choice.{either};
 ghost use Rattle.paper.specs.Saps.{isSap, isType, grantOf, asBindAllows};
+use paper::MOST_OPEN;
 use paper::Stream;
 
 // An even number under 256. RFC 1010, to which the manual refers, reserves one of them.
-pub fn is_sap(n: u32) -> bool
+fn is_sap(n: u32) -> bool
     ensures { λ r. ⌜ r ≡ isSap n ⌝ }
 {
     if 256 <= n {
@@ -27,17 +28,17 @@ pub fn is_sap_or_type(n: u32) -> bool
     is_sap(n) || is_type(n)
 }
 
-// The smaller of the count asked and 8; in mode 2 none.
+// The smaller of the count asked and the most that a stream can hold; in mode 2 none.
 pub fn grant_of(mode: u16, most: u32) -> u8
     ensures { λ r. ⌜ r ≡ grantOf mode most ⌝ }
 {
     if mode == 2 {
         return 0;
     }
-    if most < 8 {
+    if most < MOST_OPEN as u32 {
         return most as u8;
     }
-    8
+    MOST_OPEN as u8
 }
 
 // Mode 1 has a SAP, mode 2 a SAP or a type and nothing granted.
@@ -46,7 +47,7 @@ pub fn as_bind_allows(s: Stream) -> bool
 {
     let sap = s.sap as u32;
     if s.mode == 1 {
-        return is_sap(sap) && s.granted <= 8;
+        return is_sap(sap) && s.granted <= MOST_OPEN as u8;
     }
     if s.mode != 2 {
         return false;

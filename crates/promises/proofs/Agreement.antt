@@ -6,7 +6,7 @@ use mathlib.Core.Bool.{true, false≢true}
 use mathlib.Core.List.{List, [], _∷_, map}
 use Rattle.octets.proofs.Runs.{of-areBytes}
 use Rattle.ledger.proofs.Lists.{replicate-at}
-use Rattle.paper.specs.Base.{isAmong, boundStates, Slot, Table, fresh, slot, stream, waiting, closed}
+use Rattle.paper.specs.Base.{isAmong, boundStates, Slot, Table, fresh, slot, stream, waiting, closed, streamTotal}
 use Rattle.paper.specs.StateRows.{stateRows}
 use Rattle.paper.specs.Step.{step}
 use Rattle.fates_book.specs.declared.Line.{Line}
@@ -74,10 +74,10 @@ agrees-run s (c ∷ cs) t b ts g a =
 pub agrees : (s : ℕ) (cs : List Call) → Agrees s (run fresh cs) (fates s (history fresh cs)) (λ k. tallies k s (lines (history fresh cs)) []) (grantedBy s (history fresh cs))
 agrees s cs = agrees-run s cs fresh [] (λ k. []) 0 (record {
   sound = fresh-sound;
-  now = ap (λ (x : Slot). x .waiting) (sym (replicate-at 16 closed s));
+  now = ap (λ (x : Slot). x .waiting) (sym (replicate-at streamTotal closed s));
   left = refl;
   counts = λ k. refl;
-  grants = λ h. absurd (false≢true (sym (ap (λ (x : Slot). isAmong boundStates (x .stream)) (replicate-at 16 closed s)) ∙ h));
+  grants = λ h. absurd (false≢true (sym (ap (λ (x : Slot). isAmong boundStates (x .stream)) (replicate-at streamTotal closed s)) ∙ h));
 })
 
 -- ---- every line of a history is fair, and comes to an opening
@@ -98,5 +98,5 @@ fair-run s (c ∷ cs) t z k f =
 pub fair-history : (s : ℕ) (cs : List Call) → (fairs s (lines (history fresh cs)) [] ≡ true) × (rooteds s (lines (history fresh cs)) 0 ≡ true)
 fair-history s cs =
     let r : (fairs s (lines (history fresh cs)) (waiting fresh s) ≡ true) × (rooteds s (lines (history fresh cs)) 0 ≡ true)
-    = fair-run s cs fresh fresh-sound 0 (λ e. absurd (false≢true (sym (ap (λ (x : Slot). x .isOpen) (replicate-at 16 closed s)) ∙ e))) in
-    (ap (fairs s (lines (history fresh cs))) (ap (λ (x : Slot). x .waiting) (sym (replicate-at 16 closed s))) ∙ r .0, r .1)
+    = fair-run s cs fresh fresh-sound 0 (λ e. absurd (false≢true (sym (ap (λ (x : Slot). x .isOpen) (replicate-at streamTotal closed s)) ∙ e))) in
+    (ap (fairs s (lines (history fresh cs))) (ap (λ (x : Slot). x .waiting) (sym (replicate-at streamTotal closed s))) ∙ r .0, r .1)

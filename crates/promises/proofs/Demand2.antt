@@ -14,11 +14,11 @@ use Rattle.paper.specs.ErrorCodes.{errorOf, outState}
 use Rattle.paper.specs.ErrorOrder.{verdict}
 use Rattle.paper.specs.Messages.{codeIn, askedBy}
 use Rattle.paper.specs.RecordsIn.{inputOf, messageIn}
-use Rattle.paper.specs.Refusals.{Outcome, refused}
+use Rattle.paper.specs.Refusals.{Outcome}
 use Rattle.paper.specs.Sight.{sends, sightOf}
 use Rattle.paper.specs.Sound.{sound}
 use Rattle.paper.specs.StateRows.{stateRows}
-use Rattle.paper.specs.Step.{serveBy, step}
+use Rattle.paper.specs.Step.{serveBy, step, roomSize}
 use Rattle.paper.specs.declared.Asked.{Asked}
 use Rattle.paper.specs.declared.Asked.the-variants.{For}
 use Rattle.paper.specs.declared.Input.{Input}
@@ -28,6 +28,7 @@ use Rattle.paper.specs.declared.Rule.{Rule}
 use Rattle.paper.specs.declared.Service.{Service}
 use Rattle.paper.specs.declared.Verdict.the-variants.{Serves, Fails}
 use Rattle.paper.proofs.Walk.{Sent, Way, refusing, answering, walk, step-by}
+use Rattle.paper.proofs.Effects.{errorsIn}
 use Rattle.table_image.specs.Layout.{tableOf, tidy, soundImage}
 use Rattle.table_image.proofs.ImageBack.{image-back}
 use Rattle.call_outcomes.specs.Leaving.{Left}
@@ -43,7 +44,6 @@ use Rattle.promises.proofs.OutState.{gets-outState}
 use Rattle.keeping.proofs.Tested.{sound-test}
 use Rattle.promises.proofs.Verdicts.{errorsBy, answer-tells}
 use Rattle.promises.proofs.Whole.{told-step}
-use Rattle.promises.proofs.Written.{errorsIn}
 
 errors-of-the-call : (img : List ℕ) (c : Lending) → soundImage img ≡ true
     → errorsTold (cameBack c (leftOn img c) .written) ≡ errorsIn (outcome (tableOf img) c .records)
@@ -56,11 +56,11 @@ errors-of-the-call img c e =
 -- A message that is not refused was sent to an open stream, has 4 to 96 bytes, and had room; and tells the error of its verdict.
 record Passed (t : Table) (r : List ℕ) (room i l : ℕ) (o : Outcome) : Type 0 where
   sent : Sent t i l
-  roomy : 128 ≤ room
+  roomy : roomSize ≤ room
   tells : errorsIn (o .records) ≡ errorsBy (verdictOf stateRows t i (messageIn r l))
 
 module _ (t : Table) (r : List ℕ) (room i l : ℕ) where
-  served-passed : 128 ≤ room → {o : Outcome} → Way stateRows t r (input.Message i l) o → o .refusal ≡ 0 → Passed t r room i l o
+  served-passed : roomSize ≤ room → {o : Outcome} → Way stateRows t r (input.Message i l) o → o .refusal ≡ 0 → Passed t r room i l o
   served-passed b (refusing some few) z = absurd (omega (arith, some, z))
   served-passed b (answering s e a) z = record {
     sent = s;

@@ -51,7 +51,7 @@ use Rattle.keeping.proofs.Images.{image-sound}
 -- ---- no call gives 16
 
 -- Calls in any sequence leave a sound table,
-pub stays-sound : (x : Harness) → sound (tableIn x) ≡ true
+stays-sound : (x : Harness) → sound (tableIn x) ≡ true
 stays-sound x = sound-test (tableIn x) (agreed x 0 .sound)
 
 -- in an image that is tidy too: what a harness holds is always lent soundly,

@@ -32,6 +32,7 @@ use Rattle.paper.specs.declared.Request.the-variants as request
 use Rattle.paper.proofs.Fair.{acceptsHere, acceptsOn, denies, disconnects}
 use Rattle.paper.proofs.Walk.{Replied, failing, serving, arriving, Way, refusing, closing, bringing, step-walk}
 use Rattle.paper.proofs.Walk as walk
+use Rattle.paper.proofs.Effects.{errorsIn}
 use Rattle.fates_book.specs.declared.End.{End}
 use Rattle.fates_book.specs.declared.End.the-variants.{Accepted, Denied, Withdrawn, Dropped}
 use Rattle.fates_book.specs.declared.Line.{Line}
@@ -52,7 +53,6 @@ use Rattle.promises.proofs.Refused.{refusal-is-all}
 use Rattle.keeping.proofs.Closes.{open-nonzero}
 use Rattle.keeping.proofs.Tested.{sound-test}
 use Rattle.promises.proofs.Verdicts.{complete-answered}
-use Rattle.promises.proofs.Written.{errorsIn}
 
 -- ---- of a message that is answered without an error
 

@@ -9,11 +9,11 @@ use Rattle.ledger.proofs.Tallies.{chosen}
 use Rattle.paper.specs.Base.{Table}
 use Rattle.paper.specs.StateRows.{stateRows}
 use Rattle.paper.specs.Step.{step}
+use Rattle.paper.proofs.Effects.{errorsIn}
 use Rattle.table_image.specs.Layout.{tableOf, imageOf}
 use Rattle.table_image.proofs.ImageBack.{image-back}
 use Rattle.call_outcomes.specs.Leaving.{Left, leaving, callOf}
 use Rattle.promises.proofs.Orderly.{orderly}
-use Rattle.promises.proofs.Written.{errorsIn}
 
 -- "A message answered with DL_ERROR_ACK changes no stream", nor anything else of the table.
 pub error-holds : (t : Table) (r : List ℕ) (room : ℕ)

@@ -14,7 +14,7 @@ use Rattle.octets.specs.Runs.{over}
 use Rattle.paper.specs.Base.{Table, fresh}
 use Rattle.paper.specs.RecordsOut.{allBytes}
 use Rattle.paper.specs.Refusals.{Outcome, refused}
-use Rattle.paper.specs.Step.{step}
+use Rattle.paper.specs.Step.{step, roomSize}
 use Rattle.table_image.specs.Layout.{tableOf, imageOf}
 use Rattle.table_image.proofs.TableBack.{table-back}
 use Rattle.call_outcomes.specs.Leaving.{Left, left, refusing, writing, refusalIn, tokenIn, writtenIn, leaving, callOf}
@@ -22,7 +22,6 @@ use Rattle.call_outcomes.specs.Fresh.{Made, freshOf}
 use Rattle.fates_book.specs.Book.{posts, tallies, grantBy}
 use Rattle.fates_book.proofs.Shades.{posts-append, tallies-append, grant-append, fairs, rooteds}
 use Rattle.promises.specs.Answers.{errorsTold}
-use Rattle.promises.proofs.Written.{errorsIn}
 use Rattle.keeping.specs.Soundness.{Sound}
 use Rattle.promises.specs.History.{Answered, lines, fates, grantedBy, saidBy}
 use Rattle.promises.proofs.Runs.{Call, answeredBy, run, history}
@@ -37,6 +36,7 @@ use Rattle.promises.proofs.Whole.{room-enough, read-step, told-step}
 use Rattle.fates_book.specs.declared.Line.{Line}
 use Rattle.fates_book.proofs.Said.{said}
 use Rattle.paper.specs.RecordsIn.{inputOf}
+use Rattle.paper.proofs.Effects.{errorsIn}
 
 -- On the image of a sound table the call for C is the step of that table.
 pub call-is-step : (t : Table) → Sound t → (r room : List ℕ) → callOf (imageOf t) r room ≡ leaving (imageOf t) room (step t r (length room))
@@ -80,7 +80,7 @@ is-step t k c = chosen (IsStep t c) _ _ _
           (none-taken (c .room) (refusing (o .refusal) % 65536) (omega arith))
           ∙ ap (answeredBy (c .bytes)) (sym z);
     })
-    (λ e. let n : length bs ≤ 128 = room-enough t k (c .bytes) (length (c .room)) in
+    (λ e. let n : length bs ≤ roomSize = room-enough t k (c .bytes) (length (c .room)) in
     record {
       image = refl;
       answer = same-answer c (left (writing (length bs) (o .opened)) (imageOf (o .table)) (over bs (c .room))) (o .refusal) (o .opened) bs (omega (arith, ltb-false 0 (o .refusal) e)) (omega arith)

@@ -8,7 +8,6 @@ pub mod Grants
 pub mod Orders
 -- What they rest on. What an effect writes, what the bytes lent say of their record, and what holds on every way that a call can go.
 pub mod Written
-pub mod Letters
 pub mod Orderly
 -- The sentences on one call of the tables: refusals, errors, what is read from its bytes, the rule that answers a message, OUTSTATE, what
 -- may be named in state 9.

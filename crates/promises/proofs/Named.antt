@@ -19,7 +19,8 @@ use Rattle.paper.specs.declared.Found.the-variants.{At, Missing}
 use Rattle.paper.specs.declared.Request.{Request}
 use Rattle.paper.specs.declared.Request.the-variants as request
 use Rattle.paper.specs.declared.Verdict.{Verdict}
-use Rattle.paper.proofs.Fair.{Asks, acceptsHere, acceptsOn, denies, disconnects, notOpen, acceptQos, othersOpen, ofNone, notIdle, otherPpa, connectionless, denialNotOpen, notZero, Judged, fails, serves, fair}
+use Rattle.paper.proofs.Fair.{Asks, acceptsHere, acceptsOn, denies, disconnects, notOpen, acceptQos, othersOpen, ofNone}
+use Rattle.paper.proofs.Fair.{notIdle, otherPpa, connectionless, denialNotOpen, notZero, Judged, fails, serves, judged-fairly}
 use Rattle.keeping.specs.Soundness.{Sound}
 use Rattle.promises.proofs.Verdicts.{errorsBy}
 
@@ -38,7 +39,7 @@ module _ (t : Table) (s : ℕ) (k : Sound t) (e : isIn 9 (stream t s) ≡ true) 
   judged q a h = go (found stateRows (stream t s) (requestAsks q .cause)) (ap isFound (found-in-nine (requestAsks q .cause)) ∙ h)
     where
       go : (f : Found) → isFound f ≡ true → (c : ℕ) × Judged t s m q c (verdictBy (sightBy t s f (requestAsks q .question)) (For q) f)
-      go (At x) h = (_, fair t s m x q a)
+      go (At x) h = (_, judged-fairly t s m x q a)
       go Missing h = absurd (false≢true h)
 
   -- ---- a denial

@@ -19,7 +19,7 @@ use Rattle.fates_book.specs.Book.{earlier, posts, tallies}
 use Rattle.fates_book.specs.Lines.{parting, openingLines}
 use Rattle.fates_book.proofs.Said.{orderLine, replyLine, lineOf}
 use Rattle.fates_book.proofs.Shades.{openings, openingsIn, openings-append, length-posts, earlier-posts}
-use Rattle.paper.specs.Base.{Slot, Table, fresh, slot, closed}
+use Rattle.paper.specs.Base.{Slot, Table, fresh, slot, closed, streamTotal}
 use Rattle.paper.specs.RecordsIn.{inputOf}
 use Rattle.paper.specs.RecordsOut.{Record, order, flush, up}
 use Rattle.paper.specs.Refusals.{Outcome}
@@ -155,7 +155,7 @@ openings-are-opens x s =
 pub open-by-the-calls : (x : Harness) (s : ℕ) → isOpenBy s (heardIn x) false ≡ slot (tableIn x) s .isOpen
 open-by-the-calls x s =
     ap (λ (h : List Answered). isOpenBy s h false) (history-is x)
-    ∙ ap (isOpenBy s (history fresh (callsOf x))) (sym (ap (λ (y : Slot). y .isOpen) (replicate-at 16 closed s)))
+    ∙ ap (isOpenBy s (history fresh (callsOf x))) (sym (ap (λ (y : Slot). y .isOpen) (replicate-at streamTotal closed s)))
     ∙ open-run s (callsOf x) fresh fresh-sound
     ∙ ap (λ (t : Table). slot t s .isOpen) (sym (table-is x))
 

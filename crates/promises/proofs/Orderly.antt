@@ -17,7 +17,8 @@ use Rattle.fates_book.specs.declared.End.the-variants.{Denied, Withdrawn, Dropp
 use Rattle.fates_book.specs.declared.Line.the-variants.{Went}
 use Rattle.fates_book.specs.Lines.{isMessageOf, mayBeSaid}
 use Rattle.ledger.proofs.Sums.{put-same}
-use Rattle.paper.specs.Base.{Slot, closed, justOpened, Table, slot, stream, waiting, lowestFree, tokenOf, ppaNumbers, macOf, macAt, withSlot, withNumbers, withStream, withCounter, withPpa, remembering}
+use Rattle.paper.specs.Base.{Slot, closed, justOpened, Table, slot, stream, waiting, lowestFree, tokenOf, streamTotal, addressSize}
+use Rattle.paper.specs.Base.{ppaNumbers, macOf, macAt, withSlot, withNumbers, withStream, withCounter, withPpa, remembering}
 use Rattle.paper.specs.Effects.{changed, carried, enacted, ordersIn, behindReply, upsIn, told, errorEffect, effectOf, eventEffect}
 use Rattle.paper.specs.Messages.{codeIn}
 use Rattle.paper.specs.Openings.{goodbye, goodbyes}
@@ -25,7 +26,7 @@ use Rattle.paper.specs.RecordsOut.{Record, inOrder}
 use Rattle.paper.specs.Refusals.{Outcome, refused, served, servedOpening}
 use Rattle.paper.specs.RecordsIn.{inputOf, messageIn}
 use Rattle.paper.specs.Sound.{sound}
-use Rattle.paper.specs.Step.{stepBy}
+use Rattle.paper.specs.Step.{stepBy, roomSize}
 use Rattle.paper.specs.declared.Change.{Change}
 use Rattle.paper.specs.declared.Change.the-variants.{Stays, Becomes, Takes, Loses}
 use Rattle.paper.specs.declared.Effect.{Effect}
@@ -39,11 +40,12 @@ use Rattle.paper.specs.declared.Stream.{Stream}
 use Rattle.paper.proofs.Fair.{Fair, informs, tellsToken, attaches, detaches, binds, unbinds, connects, acceptsHere, acceptsOn, denies, disconnects, resets, answersReset}
 use Rattle.paper.proofs.Walk.{done, failing, serving, Brings, arriving, accepted, gone, withdrawn, reset, confirmed, Way, refusing, adding, opening, closing, answering, bringing, any-walk}
 use Rattle.paper.proofs.RecordsOut.{goodbyes-long}
+use Rattle.paper.proofs.Letters.{Letter, letter, no-close}
+use Rattle.paper.proofs.Effects.{errorsIn, errorsOf, service-silent, event-silent, size, told-errors, told-short}
 use Rattle.keeping.specs.Soundness.{Sound}
 use Rattle.keeping.proofs.Changes.{eight}
 use Rattle.promises.specs.History.{opensStream, closesStream, openAfter}
-use Rattle.promises.proofs.Letters.{Letter, letter, no-close}
-use Rattle.promises.proofs.Written.{errorsIn, errorsOf, service-silent, event-silent, size, told-errors, told-short, AllRight, may-end, lineUp, told-right}
+use Rattle.promises.proofs.Written.{AllRight, may-end, lineUp, told-right}
 use Rattle.promises.proofs.Runs.{answeredBy}
 use Rattle.octets.proofs.Runs.{part-length}
 
@@ -83,7 +85,7 @@ module _ (t : Table) (r : List ℕ) (q : Input) where
     -- an error changes nothing
     pub held : 0 < length (errorsIn (o .records)) → o .table ≡ t
     -- room enough, for records that name and say what they may
-    pub short : Sound t → size (o .records) ≤ 128
+    pub short : Sound t → size (o .records) ≤ roomSize
     pub right : Sound t → AllRight t r q (o .records)
     -- a served O alone gives a token, and then no record; it and a served X alone change which streams are open
     pub token : (s : ℕ) → opensStream s (answeredBy r o) ≡ eqb (o .opened) (suc s)
@@ -107,7 +109,7 @@ module _ (t : Table) (r : List ℕ) (q : Input) where
   }
 
   -- served, with no token
-  of-served : (u : Table) (rs : List Record) → (0 < length (errorsIn rs) → u ≡ t) → (Sound t → size rs ≤ 128) → (Sound t → AllRight t r q rs)
+  of-served : (u : Table) (rs : List Record) → (0 < length (errorsIn rs) → u ≡ t) → (Sound t → size rs ≤ roomSize) → (Sound t → AllRight t r q rs)
       → (Sound t → (s : ℕ) → slot u s .isOpen ≡ both (not (closesStream s (answeredBy r (served u rs)))) (slot t s .isOpen)) → Orderly (served u rs)
   of-served u rs h l a d = record {
     bare = λ e. absurd (false≢true e);
@@ -122,7 +124,7 @@ module _ (t : Table) (r : List ℕ) (q : Input) where
   }
 
   -- and no stream is opened or closed: the record is no X
-  of-same-streams : (u : Table) (rs : List Record) → (0 < length (errorsIn rs) → u ≡ t) → (Sound t → size rs ≤ 128) → (Sound t → AllRight t r q rs)
+  of-same-streams : (u : Table) (rs : List Record) → (0 < length (errorsIn rs) → u ≡ t) → (Sound t → size rs ≤ roomSize) → (Sound t → AllRight t r q rs)
       → (getD r 0 0 ≡ 88 → ⊥) → ((s : ℕ) → slot u s .isOpen ≡ slot t s .isOpen) → Orderly (served u rs)
   of-same-streams u rs h l a x d = of-served u rs h l a (λ k s. d s ∙ rw (ne-eqb (getD r 0 0) 88 x))
 
@@ -139,8 +141,8 @@ module _ (t : Table) (r : List ℕ) (q : Input) where
   of-effect i c m e a h x =
       of-same-streams _ _
       (λ z. a (omega (arith, z, ap length (told-errors i c (slot t i) (macAt t i) m e))))
-      (λ k. told-short i c (slot t i) (macAt t i) m (k .macs _ .0) e)
-      (λ k. told-right t r q i c (slot t i) (macAt t i) m (k .macs _ .0) e (h .orders) (h .says))
+      (λ k. told-short i c (slot t i) (macAt t i) m (k .macs _ .six) e)
+      (λ k. told-right t r q i c (slot t i) (macAt t i) m (k .macs _ .six) e (h .orders) (h .says))
       x (open-enacted t i c m e)
 
   -- one that tells no error
@@ -160,7 +162,7 @@ module _ (t : Table) (r : List ℕ) (i l : ℕ) (m : List ℕ) (mine : isMessage
   proper-service x (binds b) = record { orders = omega arith; says = mine }
   proper-service x unbinds = record { orders = omega arith; says = refl }
   proper-service x (connects {a} h) =
-      record { orders = (record { sized = part-length m (a .offset) 7 (h .inside); opened = omega arith; may = refl }, omega arith); says = refl }
+      record { orders = (record { sized = part-length m (a .offset) addressSize (h .inside); opened = omega arith; may = refl }, omega arith); says = refl }
   proper-service x (acceptsHere h g) = record { orders = (record { sized = refl; opened = h .numberOpen; may = mine }, omega arith); says = refl }
   proper-service x (acceptsOn h g) = record { orders = (record { sized = refl; opened = h .numberOpen; may = mine }, omega arith); says = refl }
   proper-service x (denies {d} e h) =
@@ -179,7 +181,7 @@ module _ (t : Table) (r : List ℕ) where
   proper-event x (accepted o) l = record { orders = omega arith; says = refl }
   proper-event x (gone o) l = record { orders = omega arith; says = refl }
   proper-event x (withdrawn {i} {n} o) l =
-      record { orders = omega arith; says = may-end r i (n .0) Withdrawn (to-both _ _ (eq-eqb _ _ (l .0)) (to-both _ _ (eq-eqb _ _ (l .1)) (eq-eqb _ _ (l .2)))) }
+      record { orders = omega arith; says = may-end r i (n .0) Withdrawn (to-both _ _ (eq-eqb _ _ (l .kind)) (to-both _ _ (eq-eqb _ _ (l .stream)) (eq-eqb _ _ (l .number)))) }
   proper-event x (reset o) l = record { orders = omega arith; says = refl }
   proper-event x (confirmed o) l = record { orders = omega arith; says = refl }
 
@@ -187,13 +189,13 @@ module _ (t : Table) (r : List ℕ) where
   no-X (arriving k h) l z = omega (arith, l, z)
   no-X (accepted o) l z = omega (arith, l, z)
   no-X (gone o) l z = omega (arith, l, z)
-  no-X (withdrawn o) l z = omega (arith, l .0, z)
+  no-X (withdrawn o) l z = omega (arith, l .kind, z)
   no-X (reset o) l z = omega (arith, l, z)
   no-X (confirmed o) l z = omega (arith, l, z)
 
   -- ---- O
 
-  of-opening : getD r 0 0 ≡ 79 → lowestFree t < 16 → Orderly t r input.Open (servedOpening (withSlot (remembering t) (lowestFree t) justOpened) (lowestFree t))
+  of-opening : getD r 0 0 ≡ 79 → lowestFree t < streamTotal → Orderly t r input.Open (servedOpening (withSlot (remembering t) (lowestFree t) justOpened) (lowestFree t))
   unfolding remembering withSlot
   of-opening e h = record {
     bare = λ e. absurd (false≢true e);
@@ -231,7 +233,7 @@ module _ (t : Table) (r : List ℕ) where
     right-goodbyes [] h = omega arith
     right-goodbyes (n ∷ w) h =
         let a : has n (waiting t i) ≡ true = h n (rw (eq-eqb n n refl) (omega arith)) in
-        let d : mayBeSaid r (Went i n Dropped) ≡ true = to-both _ _ (eq-eqb _ _ (l .0)) (eq-eqb _ _ (l .1)) in
+        let d : mayBeSaid r (Went i n Dropped) ≡ true = to-both _ _ (eq-eqb _ _ (l .kind)) (eq-eqb _ _ (l .stream)) in
         (record { sized = refl; opened = either-right (eqb n 0) _ a; may = may-end r i n Dropped d }, right-goodbyes w (λ m o. h m (omega (arith, o))))
 
     of-closing : slot t i .isOpen ≡ true → Orderly t r (input.Close i) (served (withSlot t i closed) (goodbyes i (slot t i)))
@@ -251,9 +253,9 @@ module _ (t : Table) (r : List ℕ) where
             ∙ ap (λ (x : Slot). x .isOpen) (getD-set-same (t .slots) i closed closed (within (λ (x : Slot). x .isOpen) closed refl (t .slots) i h))
         at-slot s false q = ap (λ (x : Slot). x .isOpen) (getD-set-other (t .slots) i s closed closed (λ z. eqb-false i s q (sym z)))
 
-        ends : (rs : List Record) → errorsIn rs ≡ [] → (Sound t → size rs ≤ 128) → AllRight t r (input.Close i) rs → P rs
+        ends : (rs : List Record) → errorsIn rs ≡ [] → (Sound t → size rs ≤ roomSize) → AllRight t r (input.Close i) rs → P rs
         ends rs e b a =
-            of-served t r (input.Close i) _ rs (λ z. absurd (omega (arith, z, ap length e))) b (λ k. a) (λ k s. rw (l .0, l .1) (at-slot s (eqb i s) refl))
+            of-served t r (input.Close i) _ rs (λ z. absurd (omega (arith, z, ap length e))) b (λ k. a) (λ k s. rw (l .kind, l .stream) (at-slot s (eqb i s) refl))
 
 -- ---- every way that a call can go
 
@@ -266,10 +268,10 @@ module _ (rows : List StateRow) (t : Table) (r : List ℕ) where
   on-each-way (opening h) l = of-opening t r l h
   on-each-way (closing {i} h) l = of-closing t r i l h
   on-each-way (answering {i} {l = n} s e (failing {w = w} f)) l =
-      of-effect t r (input.Message i n) i i (messageIn r n) (errorEffect (codeIn (messageIn r n)) w) (λ z. refl) (record { orders = omega arith; says = refl }) (no-close _ (l .0))
+      of-effect t r (input.Message i n) i i (messageIn r n) (errorEffect (codeIn (messageIn r n)) w) (λ z. refl) (record { orders = omega arith; says = refl }) (no-close _ (l .kind))
   on-each-way (answering {i} {l = n} s e (serving {x = x} {c = c} {v = v} f h g)) l =
       of-silent t r (input.Message i n) i c (messageIn r n) _ (service-silent x (tokenOf i) (stream t i) v)
-      (proper-service t r i n (messageIn r n) (to-both _ _ (l .0) (eq-eqb _ _ (l .1))) x g) (no-close _ (l .0))
+      (proper-service t r i n (messageIn r n) (to-both _ _ (l .kind) (eq-eqb _ _ (l .stream))) x g) (no-close _ (l .kind))
   on-each-way {q} (bringing {i = i} {e = e} {x = x} b h d) l =
       of-silent t r q i i r _ (event-silent x (stream t i) e) (proper-event t r x b l) (no-X t r b l)
 

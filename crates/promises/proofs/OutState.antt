@@ -26,10 +26,12 @@ use Rattle.paper.specs.declared.Rule.{Rule}
 use Rattle.paper.specs.declared.Service.{Service}
 use Rattle.paper.specs.declared.StateRow.{StateRow}
 use Rattle.paper.specs.declared.Verdict.{Verdict}
-use Rattle.paper.proofs.Fair.{Asks, asks, Fair, informs, tellsToken, attaches, detaches, binds, unbinds, connects, acceptsHere, acceptsOn, denies, disconnects, resets, answersReset, Offers, Faulty, unknownPpa, unknownMode, managed, automatic, notAllowed, typed, listenedFor, connectQos, notSeven, tooEarly, tooLate, odd, notOpen, acceptQos, othersOpen, ofNone, notIdle, otherPpa, connectionless, denialNotOpen, notZero, Judged, fails, serves, fair}
+use Rattle.paper.proofs.Fair.{Asks, asks, Fair, informs, tellsToken, attaches, detaches, binds, unbinds, connects, acceptsHere, acceptsOn, denies, disconnects, resets}
+use Rattle.paper.proofs.Fair.{answersReset, Offers, Faulty, unknownPpa, unknownMode, managed, automatic, notAllowed, typed, listenedFor, connectQos, notSeven, tooEarly, tooLate, odd}
+use Rattle.paper.proofs.Fair.{notOpen, acceptQos, othersOpen, ofNone, notIdle, otherPpa, connectionless, denialNotOpen, notZero, Judged, fails, serves, judged-fairly}
+use Rattle.paper.proofs.Effects.{errorsIn}
 use Rattle.promises.specs.Answers.{Complete, hasRow, isBusy, offersBusy}
 use Rattle.promises.proofs.Verdicts.{errorsBy, complete-tells}
-use Rattle.promises.proofs.Written.{errorsIn}
 
 -- ---- the verdict on a request
 
@@ -88,7 +90,7 @@ module _ (t : Table) (i : ℕ) (m : List ℕ) where
     where
       go : (f : Found) → has outState (errorsBy (verdictBy (sightBy t i f (requestAsks q .question)) (For q) f)) ≡ either (not (isFound f)) (offersBusy t i q)
       go Missing = refl
-      go (At x) = judged-says (fair t i m x q a)
+      go (At x) = judged-says (judged-fairly t i m x q a)
 
 -- ---- of a call
 

@@ -18,8 +18,8 @@ use Rattle.paper.specs.declared.Verdict.{Verdict}
 use Rattle.paper.specs.declared.Verdict.the-variants.{Serves, Fails}
 use Rattle.paper.proofs.Walk.{Replied, failing, serving, answers}
 use Rattle.promises.specs.Answers.{Complete}
-use Rattle.promises.proofs.Written.{errorsIn, service-silent, told-errors}
 use Rattle.paper.specs.ErrorOrder.{verdictOn}
+use Rattle.paper.proofs.Effects.{errorsIn, service-silent, told-errors}
 
 abbrev pub errorsBy : Verdict → List ℕ
 errorsBy (Serves v) = []

@@ -15,16 +15,17 @@ use Rattle.paper.specs.RecordsIn.{inputOf}
 use Rattle.paper.specs.RecordsOut.{Record, order, flush, up, bytesOf, allBytes}
 use Rattle.paper.specs.Replies.{contentOf}
 use Rattle.paper.specs.StateRows.{stateRows}
-use Rattle.paper.specs.Step.{step}
+use Rattle.paper.specs.Step.{step, roomSize}
 use Rattle.paper.specs.declared.LineOrder.the-variants as lineOrder
 use Rattle.paper.specs.declared.Reply.the-variants as reply
+use Rattle.paper.proofs.Effects.{errorIn, errorsIn}
 use Rattle.promises.specs.Answers.{errorAt, errorsTold}
 use Rattle.keeping.specs.Soundness.{Sound}
 use Rattle.promises.proofs.Orderly.{orderly}
-use Rattle.promises.proofs.Written.{errorIn, errorsIn, all-sized}
+use Rattle.promises.proofs.Written.{all-sized}
 
 module _ (t : Table) (k : Sound t) (r : List ℕ) (room : ℕ) where
-  pub room-enough : length (allBytes (step t r room .records)) ≤ 128
+  pub room-enough : length (allBytes (step t r room .records)) ≤ roomSize
   room-enough = orderly stateRows t r room .short k
 
   pub whole-step : AllSized (step t r room .records)

@@ -1,6 +1,6 @@
 -- Demand 2's two sentences on answers, in the paper's words: the errors that a call tells, a complete message that we
 -- serve, the rule that answers it, a row of the state table, an accept that offers a stream that isn't idle.
-use Prim.Native.Nat.{ℕ, _≤_}
+use Prim.Native.Nat.{ℕ, _+_, _≤_}
 use mathlib.Core.Path.{_≡_}
 use mathlib.Core.Bool.{Bool, true, false, not}
 use mathlib.Core.List.{List, [], _∷_}
@@ -10,9 +10,10 @@ use Rattle.ledger.specs.Choice.{both, _⇒_∣_}
 use Rattle.ledger.specs.Tally.{has}
 use Rattle.ledger.specs.Lists.{joined}
 use Rattle.octets.specs.Numbers.{be32At}
+use Rattle.octets.specs.Blocks.{blockSize}
 use Rattle.paper.specs.Base.{isIn, Table, slot, waiting}
 use Rattle.paper.specs.Messages.{askedBy}
-use Rattle.paper.specs.RecordsIn.{inputOf, messageIn}
+use Rattle.paper.specs.RecordsIn.{inputOf, headSize, messageIn}
 use Rattle.paper.specs.StateRows.{found, isFound}
 use Rattle.paper.specs.Sight.{requestAsks, carrierOf}
 use Rattle.paper.specs.ErrorOrder.{verdictOn}
@@ -27,13 +28,14 @@ use Rattle.paper.specs.declared.StateRow.{StateRow}
 use Rattle.paper.specs.declared.Verdict.{Verdict}
 use Rattle.paper.specs.declared.Carrier.{Carrier}
 use Rattle.paper.specs.declared.Carrier.the-variants.{Itself, Other, None}
+use Rattle.paper.specs.Step.{roomSize}
 
 -- ---- answered with DL_ERROR_ACK
 
 -- the error that the record at the start of some bytes tells: an ERROR_ACK its own, any other none; and those of all records
 -- written
 unfoldable pub errorAt : List ℕ → List ℕ
-errorAt b = both (isMessage (getD b 0 0)) (eqb (be32At b 3) 0x05) ⇒ be32At b 11 ∷ [] ∣ []
+errorAt b = both (isMessage (getD b 0 0)) (eqb (be32At b headSize) 0x05) ⇒ be32At b (headSize + 8) ∷ [] ∣ []
 
 abbrev pub errorsTold : List ℕ → List ℕ
 errorsTold written = joined errorAt (recordsIn (length written) written)
@@ -47,8 +49,8 @@ pub record Complete (t : Table) (r : List ℕ) (room i : ℕ) (q : Request) : Ty
   pub read : inputOf r ≡ input.Message i size
   pub isOpen : slot t i .isOpen ≡ true
   pub coded : 4 ≤ size
-  pub whole : size ≤ 96
-  pub roomy : 128 ≤ room
+  pub whole : size ≤ blockSize
+  pub roomy : roomSize ≤ room
   pub asks : askedBy (messageIn r size) ≡ For q
 
 -- ---- the rule that answers it

@@ -1,3 +1,4 @@
+-- What the sentences of the demands speak of.
 pub mod Answers
 pub mod History
 pub mod Harness

@@ -1,30 +1,19 @@
 // Reads records on standard input and prints what the rule paper says of each call: see crates/replay_transcript.
-ghost use mathlib.Core.Path.{_≡_};
-ghost use mathlib.Core.Bool.{true};
-ghost use Prim.Native.Nat.{_+_, _<_, _≤_};
-ghost use lib.ListN.{length};
-ghost use Rattle.octets.specs.Runs.{paste};
-ghost use Rattle.table_image.specs.Layout.{soundImage};
-ghost use Rattle.turns.specs.Turns.{callOn, afterCall, turnAfter, afterTurn, Fine, Ready};
-ghost use Rattle.call_outcomes.specs.Leaving.{callMade, isRefused};
-ghost use Rattle.replay.specs.Printed.{printed, textOn};
+ghost use Rattle.replay.specs.Printed.{CallRoom, Replayed, Standing, AtTurn, AtCall, Called, Turned, Kept};
 use turns::Turn;
 
 // A call that was made and printed: where its text ends, and whether it was refused.
-pub struct Printed {
+struct Printed {
     pub end: usize,
     pub refused: bool,
 }
 
 // One call, and its text from a place of the output on.
 fn replay_call(table: &mut [u8], bytes: &[u8], out: &mut [u8], at: usize, n: u64) -> Printed
-    requires { ⌜ (at + 20000 ≤ length (now out)) × (soundImage (now table) ≡ true) ⌝ }
-    ensures { λ r. ⌜ (now (table .exit) ≡ callMade (now (table .entry)) (now (bytes .entry)) .image) × (soundImage (now (table .exit)) ≡ true) ⌝ }
-    ensures { λ r. ⌜ now (out .exit) ≡ paste (now (out .entry)) at (printed n (callMade (now (table .entry)) (now (bytes .entry)))) ⌝ }
-    ensures { λ r. ⌜ (r .end ≡ at + length (printed n (callMade (now (table .entry)) (now (bytes .entry))))) × (r .end ≤ at + 20000) ⌝ }
-    ensures { λ r. ⌜ r .refused ≡ isRefused (callMade (now (table .entry)) (now (bytes .entry))) ⌝ }
+    requires { ⌜ CallRoom (now table) (now out) at ⌝ }
+    ensures { λ r. ⌜ Replayed (now (table .entry)) (now (bytes .entry)) (now (out .entry)) at n (now (table .exit)) (now (out .exit)) r ⌝ }
 {
-    let mut room = [0u8; 128];
+    let mut room = [0u8; paper::ROOM_SIZE];
     let answer = call_engine::call_sound(table, bytes, &mut room);
     let end = replay_transcript::put_call(out, at, n, answer, &room);
     Printed {
@@ -35,10 +24,8 @@ fn replay_call(table: &mut [u8], bytes: &[u8], out: &mut [u8], at: usize, n: u64
 
 // The call on what is not read yet, and its text behind what is printed already.
 fn called(table: &mut [u8], input: &[u8], output: &mut [u8], t: Turn) -> Turn
-    requires { ⌜ (soundImage (now table) ≡ true) × (length (now input) ≡ 65536) × (length (now output) ≡ 65536) × Ready t × (t .calls < 18446744073709551615) ⌝ }
-    ensures { λ r. ⌜ (r ≡ afterCall (now (input .entry)) (t .filled + length (textOn (now (table .entry)) (now (input .entry)) t)) (isRefused (callOn (now (table .entry)) (now (input .entry)) t)) t) × Fine r ⌝ }
-    ensures { λ r. ⌜ (now (table .exit) ≡ callOn (now (table .entry)) (now (input .entry)) t .image) × (soundImage (now (table .exit)) ≡ true) ⌝ }
-    ensures { λ r. ⌜ now (output .exit) ≡ paste (now (output .entry)) (t .filled) (textOn (now (table .entry)) (now (input .entry)) t) ⌝ }
+    requires { ⌜ AtCall (now table) (now input) (now output) t ⌝ }
+    ensures { λ r. ⌜ Called (now (table .entry)) (now (input .entry)) (now (output .entry)) t (now (table .exit)) (now (output .exit)) r ⌝ }
 {
     let start = t.start;
     let end = t.end;
@@ -49,10 +36,8 @@ fn called(table: &mut [u8], input: &[u8], output: &mut [u8], t: Turn) -> Turn
 // A call is made where a whole record may stand in the input, or no more is to come. Reading ends behind the last record, and
 // at one that is cut or of an unknown kind.
 fn turned(table: &mut [u8], input: &[u8], output: &mut [u8], t: Turn) -> Turn
-    requires { ⌜ (soundImage (now table) ≡ true) × (length (now input) ≡ 65536) × (length (now output) ≡ 65536) × Ready t ⌝ }
-    ensures { λ r. ⌜ (r ≡ turnAfter (now (input .entry)) (textOn (now (table .entry)) (now (input .entry)) t) (isRefused (callOn (now (table .entry)) (now (input .entry)) t)) t) × Fine r ⌝ }
-    ensures { λ r. ⌜ (now (table .exit) ≡ afterTurn t (now (table .entry)) (callOn (now (table .entry)) (now (input .entry)) t .image)) × (soundImage (now (table .exit)) ≡ true) ⌝ }
-    ensures { λ r. ⌜ now (output .exit) ≡ afterTurn t (now (output .entry)) (paste (now (output .entry)) (t .filled) (textOn (now (table .entry)) (now (input .entry)) t)) ⌝ }
+    requires { ⌜ AtTurn (now table) (now input) (now output) t ⌝ }
+    ensures { λ r. ⌜ Turned (now (table .entry)) (now (input .entry)) (now (output .entry)) t (now (table .exit)) (now (output .exit)) r ⌝ }
 {
     if turns::waits(t) {
         return t;
@@ -64,8 +49,8 @@ fn turned(table: &mut [u8], input: &[u8], output: &mut [u8], t: Turn) -> Turn
 }
 
 fn one_turn(table: &mut [u8], input: &mut [u8], output: &mut [u8], t: Turn) -> Turn
-    requires { ⌜ (soundImage (now table) ≡ true) × (length (now input) ≡ 65536) × (length (now output) ≡ 65536) × Fine t ⌝ }
-    ensures { λ r. ⌜ Fine r × (soundImage (now (table .exit)) ≡ true) ⌝ }
+    requires { ⌜ Standing (now table) (now input) (now output) t ⌝ }
+    ensures { λ r. ⌜ Kept (now (table .exit)) r ⌝ }
 {
     let a = turns::fed(input, t);
     if !a.going {
@@ -78,13 +63,13 @@ fn one_turn(table: &mut [u8], input: &mut [u8], output: &mut [u8], t: Turn) -> T
     turned(table, input, output, b)
 }
 
-// Turn after turn, until one says to stop.
+// Turn after turn, until one says to stop; no more than 64 bits count.
 fn run(table: &mut [u8], input: &mut [u8], output: &mut [u8], t0: Turn) -> Turn
-    requires { ⌜ (soundImage (now table) ≡ true) × (length (now input) ≡ 65536) × (length (now output) ≡ 65536) × Fine t0 ⌝ }
-    ensures { λ r. ⌜ Fine r × (soundImage (now (table .exit)) ≡ true) ⌝ }
+    requires { ⌜ Standing (now table) (now input) (now output) t0 ⌝ }
+    ensures { λ r. ⌜ Kept (now (table .exit)) r ⌝ }
 {
     let mut t = t0;
-    let mut left: u64 = 0xffffffffffffffff;
+    let mut left = turns::MOST_CALLS;
     while 0 < left {
         if !t.going {
             return t;
@@ -98,7 +83,7 @@ fn run(table: &mut [u8], input: &mut [u8], output: &mut [u8], t0: Turn) -> Turn
 // Starts from a fresh table with the first line filled in. Where reading or writing failed there is no last line, so that
 // what was printed is not taken for the whole.
 fn main() {
-    let mut table = [0u8; 760];
+    let mut table = [0u8; table_image::IMAGE_SIZE];
     table_image::make_fresh(&mut table);
     let mut input = io::large_buffer();
     let mut output = io::large_buffer();

@@ -1,16 +1,18 @@
 -- 'Measured examples', the replay program: what it prints of each call, as bytes of text.
-use Prim.Native.Nat.{ℕ, zero, suc, _+_, _-_, _/_, _%_}
+use Prim.Native.Nat.{ℕ, zero, suc, _+_, _-_, _*_, _/_, _%_, _≤_}
 use mathlib.Core.List.{List, [], _∷_, _++_}
 use lib.ListN.{length, getD, take, drop}
 use lib.Dec.{eqb, ltb}
 use Rattle.ledger.specs.Choice.{_⇒_∣_}
 use Rattle.octets.specs.Runs.{part}
-use Rattle.paper.specs.RecordsOut.{isMessage, sizeOut}
-use Rattle.text.specs.Digits.{decimal, hex}
+use Rattle.paper.specs.RecordsOut.{isMessage, sizeOut, startSize}
+use Rattle.paper.specs.Step.{roomSize}
+use Rattle.text.specs.Digits.{mostDigits, decimal, hex}
+use Rattle.paper.specs.RecordsIn.{headSize}
 
 -- What a line shows behind the stream: of a message its bytes up to L, of other kinds the body's other fields.
 unfoldable pub shownOf : List ℕ → List ℕ
-shownOf r = isMessage (getD r 0 0) ⇒ part r 3 (getD r 2 0) ∣ part r 2 (sizeOut (getD r 0 0) - 2)
+shownOf r = isMessage (getD r 0 0) ⇒ part r headSize (getD r 2 0) ∣ part r startSize (sizeOut (getD r 0 0) - startSize)
 
 -- ---- lines
 
@@ -37,13 +39,13 @@ abbrev pub allLines : ℕ → List ℕ → List ℕ
 allLines n rs = recordLines (length rs) n rs
 
 -- ' refused ', ' open ', ' ok'
-abbrev pub wordRefused : List ℕ
+abbrev wordRefused : List ℕ
 wordRefused = 32 ∷ 114 ∷ 101 ∷ 102 ∷ 117 ∷ 115 ∷ 101 ∷ 100 ∷ 32 ∷ []
 
-abbrev pub wordOpen : List ℕ
+abbrev wordOpen : List ℕ
 wordOpen = 32 ∷ 111 ∷ 112 ∷ 101 ∷ 110 ∷ 32 ∷ []
 
-abbrev pub wordOk : List ℕ
+abbrev wordOk : List ℕ
 wordOk = 32 ∷ 111 ∷ 107 ∷ []
 
 -- 'n refused r', 'n open s', 'n ok'
@@ -71,12 +73,41 @@ abbrev pub title : List ℕ
 title = 100 ∷ 108 ∷ 112 ∷ 105 ∷ 32 ∷ 114 ∷ 101 ∷ 112 ∷ 108 ∷ 97 ∷ 121 ∷ 10 ∷ []
 
 -- ' records, ' and ' refused'
-abbrev pub wordRecords : List ℕ
+abbrev wordRecords : List ℕ
 wordRecords = 32 ∷ 114 ∷ 101 ∷ 99 ∷ 111 ∷ 114 ∷ 100 ∷ 115 ∷ 44 ∷ 32 ∷ []
 
-abbrev pub wordRefusedEnd : List ℕ
+abbrev wordRefusedEnd : List ℕ
 wordRefusedEnd = 32 ∷ 114 ∷ 101 ∷ 102 ∷ 117 ∷ 115 ∷ 101 ∷ 100 ∷ []
 
 -- 'n records, m refused'
 abbrev pub totals : ℕ → ℕ → List ℕ
 totals n m = pair n wordRecords m ++ (wordRefusedEnd ++ (10 ∷ []))
+
+-- ---- how much room each takes at most
+
+-- a blank and the fields of a record out, which was written into a room
+abbrev pub shownSize : ℕ
+shownSize = 1 + 2 * roomSize
+
+-- the longest word between two numbers is ' records, '
+abbrev pub wordSize : ℕ
+wordSize = 10
+
+abbrev pub pairSize : ℕ
+pairSize = mostDigits + wordSize + mostDigits
+
+-- a pair and a word: every line but a record's
+abbrev pub lineSize : ℕ
+lineSize = pairSize + wordSize
+
+abbrev pub recordLineSize : ℕ
+recordLineSize = pairSize + shownSize + 1
+
+-- all that a call prints
+abbrev pub callTextSize : ℕ
+callTextSize = 20000
+
+-- What is shown is short enough, and so much room is lent for its text, from a place on.
+pub record Fits (most : ℕ) (shown : List ℕ) (size at : ℕ) (out : List ℕ) : Type 0 where
+  pub short : length shown ≤ most
+  pub room : at + size ≤ length out

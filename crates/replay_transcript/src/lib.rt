@@ -2,8 +2,10 @@
 ghost use mathlib.Core.Path.{_≡_};
 ghost use Prim.Native.Nat.{_+_, _≤_};
 ghost use lib.ListN.{length, take};
-ghost use Rattle.octets.specs.Runs.{paste};
-ghost use Rattle.replay_transcript.specs.Transcript.{shownOf, pair, spaced, recordLine, allLines, refusedLine, openLine, okLine, callText, title, totals};
+ghost use Rattle.octets.specs.Writing.{Wrote, WroteMost};
+ghost use Rattle.paper.specs.Step.{roomSize};
+ghost use Rattle.replay_transcript.specs.Transcript.{shownOf, pair, spaced, recordLine, allLines, refusedLine, openLine, okLine, callText, title, totals, shownSize, wordSize, pairSize, lineSize, recordLineSize, callTextSize, Fits};
+ghost use Rattle.paper.specs.Base.{stream};
 
 // What a line shows behind the stream: of a message its bytes up to L, of other kinds the body's other fields.
 fn shown<'a>(r: &'a [u8]) -> &'a [u8]
@@ -11,15 +13,19 @@ fn shown<'a>(r: &'a [u8]) -> &'a [u8]
 {
     let kind = octets::byte_at(r, 0);
     if paper::is_message(kind) {
-        return octets::part_at(r, 3, octets::byte_at(r, 2) as usize);
+        return octets::part_at(r, paper::HEAD_SIZE, octets::byte_at(r, 2) as usize);
     }
-    octets::part_at(r, 2, paper::size_out(kind) - 2)
+    octets::part_at(
+        r,
+        paper::START_SIZE,
+        paper::size_out(kind) - paper::START_SIZE,
+    )
 }
 
 // The fields in hex behind a space; nothing where there are none.
 fn put_shown(out: &mut [u8], at: usize, s: &[u8]) -> usize
-    requires { ⌜ (length (now s) ≤ 128) × (at + 257 ≤ length (now out)) ⌝ }
-    ensures { λ r. ⌜ (r ≡ at + length (spaced (now (s .entry)))) × (now (out .exit) ≡ paste (now (out .entry)) at (spaced (now (s .entry)))) ⌝ }
+    requires { ⌜ Fits roomSize (now s) shownSize at (now out) ⌝ }
+    ensures { λ e. ⌜ WroteMost shownSize (spaced (now (s .entry))) at e (now (out .entry)) (now (out .exit)) ⌝ }
 {
     if s.len() == 0 {
         return at;
@@ -30,8 +36,8 @@ fn put_shown(out: &mut [u8], at: usize, s: &[u8]) -> usize
 
 // Two numbers with a word between them.
 fn put_pair(out: &mut [u8], at: usize, n: u64, word: &[u8], m: u64) -> usize
-    requires { ⌜ (length (now word) ≤ 10) × (at + 50 ≤ length (now out)) ⌝ }
-    ensures { λ e. ⌜ (e ≡ at + length (pair n (now (word .entry)) m)) × (e ≤ at + 50) × (now (out .exit) ≡ paste (now (out .entry)) at (pair n (now (word .entry)) m)) ⌝ }
+    requires { ⌜ Fits wordSize (now word) pairSize at (now out) ⌝ }
+    ensures { λ e. ⌜ WroteMost pairSize (pair n (now (word .entry)) m) at e (now (out .entry)) (now (out .exit)) ⌝ }
 {
     let a = text::put_decimal(out, at, n);
     let b = text::put_word(out, a, word);
@@ -40,8 +46,8 @@ fn put_pair(out: &mut [u8], at: usize, n: u64, word: &[u8], m: u64) -> usize
 
 // One line for each record out: the call's number, the kind, the stream, the fields in hex.
 fn put_record(out: &mut [u8], at: usize, n: u64, r: &[u8]) -> usize
-    requires { ⌜ (length (now r) ≤ 128) × (at + 308 ≤ length (now out)) ⌝ }
-    ensures { λ e. ⌜ (e ≡ at + length (recordLine n (now (r .entry)))) × (now (out .exit) ≡ paste (now (out .entry)) at (recordLine n (now (r .entry)))) ⌝ }
+    requires { ⌜ Fits roomSize (now r) recordLineSize at (now out) ⌝ }
+    ensures { λ e. ⌜ WroteMost recordLineSize (recordLine n (now (r .entry))) at e (now (out .entry)) (now (out .exit)) ⌝ }
 {
     let kind = octets::byte_at(r, 0);
     let stream = octets::byte_at(r, 1);
@@ -52,8 +58,8 @@ fn put_record(out: &mut [u8], at: usize, n: u64, r: &[u8]) -> usize
 
 // The lines of records that stand one behind the other.
 fn put_lines(out: &mut [u8], at: usize, n: u64, rs: &[u8]) -> usize
-    requires { ⌜ (length (now rs) ≤ 128) × (at + 20000 ≤ length (now out)) ⌝ }
-    ensures { λ e. ⌜ (e ≡ at + length (allLines n (now (rs .entry)))) × (now (out .exit) ≡ paste (now (out .entry)) at (allLines n (now (rs .entry)))) ⌝ }
+    requires { ⌜ Fits roomSize (now rs) callTextSize at (now out) ⌝ }
+    ensures { λ e. ⌜ WroteMost callTextSize (allLines n (now (rs .entry))) at e (now (out .entry)) (now (out .exit)) ⌝ }
 {
     let mut e = at;
     let mut i = 0;
@@ -66,8 +72,8 @@ fn put_lines(out: &mut [u8], at: usize, n: u64, rs: &[u8]) -> usize
 
 // 'n refused r'
 fn put_refused(out: &mut [u8], at: usize, n: u64, refusal: u32) -> usize
-    requires { ⌜ at + 60 ≤ length (now out) ⌝ }
-    ensures { λ e. ⌜ (e ≡ at + length (refusedLine n refusal)) × (now (out .exit) ≡ paste (now (out .entry)) at (refusedLine n refusal)) ⌝ }
+    requires { ⌜ at + lineSize ≤ length (now out) ⌝ }
+    ensures { λ e. ⌜ WroteMost lineSize (refusedLine n refusal) at e (now (out .entry)) (now (out .exit)) ⌝ }
 {
     let a = put_pair(out, at, n, b" refused ", refusal as u64);
     text::put_word(out, a, b"\n")
@@ -75,8 +81,8 @@ fn put_refused(out: &mut [u8], at: usize, n: u64, refusal: u32) -> usize
 
 // 'n open s'
 fn put_open(out: &mut [u8], at: usize, n: u64, stream: u32) -> usize
-    requires { ⌜ at + 60 ≤ length (now out) ⌝ }
-    ensures { λ e. ⌜ (e ≡ at + length (openLine n stream)) × (now (out .exit) ≡ paste (now (out .entry)) at (openLine n stream)) ⌝ }
+    requires { ⌜ at + lineSize ≤ length (now out) ⌝ }
+    ensures { λ e. ⌜ WroteMost lineSize (openLine n stream) at e (now (out .entry)) (now (out .exit)) ⌝ }
 {
     let a = put_pair(out, at, n, b" open ", stream as u64);
     text::put_word(out, a, b"\n")
@@ -84,8 +90,8 @@ fn put_open(out: &mut [u8], at: usize, n: u64, stream: u32) -> usize
 
 // 'n ok'
 fn put_ok(out: &mut [u8], at: usize, n: u64) -> usize
-    requires { ⌜ at + 60 ≤ length (now out) ⌝ }
-    ensures { λ e. ⌜ (e ≡ at + length (okLine n)) × (now (out .exit) ≡ paste (now (out .entry)) at (okLine n)) ⌝ }
+    requires { ⌜ at + lineSize ≤ length (now out) ⌝ }
+    ensures { λ e. ⌜ WroteMost lineSize (okLine n) at e (now (out .entry)) (now (out .exit)) ⌝ }
 {
     let a = text::put_decimal(out, at, n);
     text::put_word(out, a, b" ok\n")
@@ -104,8 +110,8 @@ pub fn start_of<'a>(room: &'a [u8], n: usize) -> &'a [u8]
 
 // What is printed of the call with a number of its own: from what the call returned, and the room that it left.
 pub fn put_call(out: &mut [u8], at: usize, n: u64, answer: u32, room: &[u8]) -> usize
-    requires { ⌜ (length (now room) ≤ 128) × (at + 20000 ≤ length (now out)) ⌝ }
-    ensures { λ e. ⌜ (e ≡ at + length (callText n answer (now (room .entry)))) × (now (out .exit) ≡ paste (now (out .entry)) at (callText n answer (now (room .entry)))) ⌝ }
+    requires { ⌜ Fits roomSize (now room) callTextSize at (now out) ⌝ }
+    ensures { λ e. ⌜ WroteMost callTextSize (callText n answer (now (room .entry))) at e (now (out .entry)) (now (out .exit)) ⌝ }
 {
     let refusal = answer / 65536 % 256;
     if 0 < refusal {
@@ -124,16 +130,16 @@ pub fn put_call(out: &mut [u8], at: usize, n: u64, answer: u32, room: &[u8]) -> 
 
 // 'dlpi replay'
 pub fn put_title(out: &mut [u8], at: usize) -> usize
-    requires { ⌜ at + 12 ≤ length (now out) ⌝ }
-    ensures { λ e. ⌜ (e ≡ at + length title) × (now (out .exit) ≡ paste (now (out .entry)) at title) ⌝ }
+    requires { ⌜ at + length title ≤ length (now out) ⌝ }
+    ensures { λ e. ⌜ Wrote title at e (now (out .entry)) (now (out .exit)) ⌝ }
 {
     text::put_word(out, at, b"dlpi replay\n")
 }
 
 // 'n records, m refused'
 pub fn put_totals(out: &mut [u8], at: usize, n: u64, m: u64) -> usize
-    requires { ⌜ at + 60 ≤ length (now out) ⌝ }
-    ensures { λ e. ⌜ (e ≡ at + length (totals n m)) × (e ≤ at + 60) × (now (out .exit) ≡ paste (now (out .entry)) at (totals n m)) ⌝ }
+    requires { ⌜ at + lineSize ≤ length (now out) ⌝ }
+    ensures { λ e. ⌜ WroteMost lineSize (totals n m) at e (now (out .entry)) (now (out .exit)) ⌝ }
 {
     let a = put_pair(out, at, n, b" records, ", m);
     text::put_word(out, a, b" refused\n")

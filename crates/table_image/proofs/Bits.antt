@@ -12,7 +12,7 @@ use lib.Count.{trailingZeros, under, ones, ones-step}
 use Rattle.ledger.specs.Choice.{pick}
 use Rattle.ledger.proofs.Tallies.{one-most}
 use Rattle.ledger.specs.Tally.{oneIf, sumOf, firstOf}
-use Rattle.paper.specs.Base.{Slot, closed, Table, lowestFree}
+use Rattle.paper.specs.Base.{Slot, closed, Table, lowestFree, streamTotal}
 use Rattle.table_image.specs.Layout.{bit, maskOf}
 use Rattle.table_image.specs.Shape.{Shaped}
 
@@ -37,7 +37,7 @@ raise-fits (suc i) (suc k) m l h z =
     omega (arith, pow-succ' 2 k, pow-succ' 2 i, raise-fits i k (m / 2) (omega arith) (omega (arith, pow-succ' 2 k)) (sym (bit-suc m i) ∙ z))
 
 -- the code's bit i
-pub one-shl : (i : ℕ) → i < 16 → 1 * 2 ^ i % 2 ^ 16 ≡ 2 ^ i
+pub one-shl : (i : ℕ) → i < streamTotal → 1 * 2 ^ i % 2 ^ 16 ≡ 2 ^ i
 one-shl i h = let e : 1 * 2 ^ i % 2 ^ 16 ≡ 1 * 2 ^ i = shl-exact 1 i 16 (lit< tt) (omega arith) in omega arith
 
 -- ---- bits of the mask

@@ -1,5 +1,6 @@
--- The image of the table that a tidy image holds is that image.
-use Prim.Native.Nat.{ℕ, zero, suc, _+_, _*_, _≤_, _<_}
+-- The image of the table that a tidy image holds is that image: each byte is read into one place of the table and written back from
+-- it, and what is read nowhere is zero.
+use Prim.Native.Nat.{ℕ, zero, suc, _+_, _≤_, _<_}
 use native.Mathlib.Omega.{arith}
 use mathlib.Core.Path.{_≡_, refl, sym, ap, ap₂, _∙_}
 use mathlib.Core.Bool.{true, not}
@@ -16,9 +17,12 @@ use Rattle.octets.specs.Runs.{Bytes, part}
 use Rattle.octets.proofs.Runs.{part-length, part-bytes, part-add}
 use Rattle.octets.proofs.Numbers.{be32At-part, be16-back, be32-back}
 use Rattle.octets.specs.Blocks.{padTo}
-use Rattle.paper.specs.Base.{numberOf, Slot, stateOf}
+use Rattle.paper.specs.Base.{numberOf, Slot, stateOf, streamTotal, macSize}
 use Rattle.paper.proofs.StateNumbers.{state-told}
-use Rattle.table_image.specs.Layout.{ppaBase, slotBase, bit, ppaFrom, streamFrom, waitingFrom, maskIn, slotAt, ppaAt, tableOf, maskOf, ppaBytes, streamBytes, waitingBytes, slotBytes, headerBytes, imageOf, isState, tidy}
+use Rattle.table_image.specs.Layout.{ppaBase, slotBase, bit, ppaFrom, streamFrom, waitingFrom, maskIn, slotAt, ppaAt, tableOf, maskOf}
+use Rattle.table_image.specs.Layout.{ppaBytes, streamBytes, waitingBytes, slotBytes, headerBytes, imageOf, isState, tidy, memoryOffset}
+use Rattle.table_image.specs.Layout.{ppaCountOffset, placesOffset, placeSize, placesSize, countOffset, numbersOffset, numbersSize}
+use Rattle.table_image.specs.Layout.{slotSize, slotsOffset, slotsSize, imageSize, numberBase, ppaPart, slotPart}
 use Rattle.table_image.proofs.Bits.{mask-only}
 use Rattle.octets.proofs.Pieces.{joined-listed, pad-listed}
 use Rattle.table_image.proofs.TableBack.{slot-at}
@@ -46,35 +50,35 @@ module _ (c : List ℕ) (h : Bytes c) where
       ∙ front r 4 (omega arith)
       ∙ take-all 4 r (omega arith)
 
-  ppa-again : length c ≡ 10 → ppaBytes (ppaFrom c) ≡ c
+  ppa-again : length c ≡ placeSize → ppaBytes (ppaFrom c) ≡ c
   unfolding ppaFrom
   ppa-again e =
-      let r : part c 4 6 ≡ drop 4 c = take-all 6 (drop 4 c) (omega (arith, length-drop 4 c)) in
+      let r : part c 4 macSize ≡ drop 4 c = take-all macSize (drop 4 c) (omega (arith, length-drop 4 c)) in
       ap₂ (λ (a b : List ℕ). a ++ b) (number-again 0 (omega arith)) r ∙ take-append-drop 4 c
 
-  module _ (e : length c ≡ 42) (t : TidySlot c) where
-    stream-again : streamBytes (streamFrom c) ≡ take 9 c
+  module _ (e : length c ≡ slotSize) (t : TidySlot c) where
+    stream-again : streamBytes (streamFrom c) ≡ take countOffset c
     unfolding streamBytes streamFrom
     stream-again =
         let g : ℕ → ℕ = λ k. getD c k 0 in
         let n : numberOf (stateOf (g 0)) ≡ g 0 = number-back (g 0) (t .state) in
         let s : be16 (be16At c 2) ≡ g 2 ∷ g 3 ∷ [] = be16-back (g 2) (g 3) (h 3) in
         let p : be32 (be32At c 4) ≡ g 4 ∷ g 5 ∷ g 6 ∷ g 7 ∷ [] = be32-back (g 4) (g 5) (g 6) (g 7) (h 5) (h 6) (h 7) in
-        (λ i. (n i ∷ g 1 ∷ []) ++ s i ++ p i ++ (g 8 ∷ [])) ∙ front c 9 (omega arith)
+        (λ i. (n i ∷ g 1 ∷ []) ++ s i ++ p i ++ (g 8 ∷ [])) ∙ front c countOffset (omega arith)
 
-    waiting-again : waitingBytes (waitingFrom c) ≡ getD c 9 0 ∷ part c 10 32
+    waiting-again : waitingBytes (waitingFrom c) ≡ getD c countOffset 0 ∷ part c numbersOffset numbersSize
     unfolding waitingBytes waitingFrom
     waiting-again =
-        let n : ℕ = getD c 9 0 in
-        let g : ℕ → ℕ = λ k. be32At c (k * 4 + 10) in
-        let p : padTo 32 (joined be32 (listed g 0 n)) ≡ part c 10 32 =
-        pad-listed be32 g c 4 10 n 32 (λ k b. number-again (k * 4 + 10) (omega (arith, t .eight))) (omega (arith, t .eight)) (omega arith) (t .unused) in
+        let n : ℕ = getD c countOffset 0 in
+        let g : ℕ → ℕ = λ k. be32At c (numberBase k) in
+        let p : padTo numbersSize (joined be32 (listed g 0 n)) ≡ part c numbersOffset numbersSize =
+        pad-listed be32 g c 4 numbersOffset n numbersSize (λ k b. number-again (numberBase k) (omega (arith, t .eight))) (omega (arith, t .eight)) (omega arith) (t .unused) in
         (λ i. listed-length g 0 n i ∷ p i)
 
     slot-again : streamBytes (streamFrom c) ++ waitingBytes (waitingFrom c) ≡ c
     slot-again =
-        let r : part c 10 32 ≡ drop 10 c = take-all 32 (drop 10 c) (omega (arith, length-drop 10 c)) in
-        rw (stream-again, waiting-again, r, ← drop-cons c 9 0 (omega arith)) (take-append-drop 9 c)
+        let r : part c numbersOffset numbersSize ≡ drop numbersOffset c = take-all numbersSize (drop numbersOffset c) (omega (arith, length-drop numbersOffset c)) in
+        rw (stream-again, waiting-again, r, ← drop-cons c countOffset 0 (omega arith)) (take-append-drop countOffset c)
 
 -- ---- the image
 
@@ -92,50 +96,50 @@ module _ (img : List ℕ) (t : Tidy img) where
   unfolding slotAt
   bit-again i = flag-again (bit (maskIn img) i) (omega arith) .1
 
-  slots-length : length (tableOf img .slots) ≡ 16
+  slots-length : length (tableOf img .slots) ≡ streamTotal
   unfolding tableOf
   slots-length = refl
 
   mask-again : maskOf (tableOf img .slots) ≡ maskIn img
   mask-again =
       mask-only (tableOf img .slots) (maskIn img) (rw slots-length (omega (arith, h 0, h 1))) λ i b.
-      let e : i < 16 = omega (arith, slots-length) in
+      let e : i < streamTotal = omega (arith, slots-length) in
       sym (ap (λ (x : Slot). oneIf (not (x .isOpen))) (slot-at img i e) ∙ bit-again i)
 
-  memory-again : oneIf (tableOf img .remembers) ≡ getD img 2 0
+  memory-again : oneIf (tableOf img .remembers) ≡ getD img memoryOffset 0
   unfolding tableOf
-  memory-again = flag-again (getD img 2 0) (t .memory) .0
+  memory-again = flag-again (getD img memoryOffset 0) (t .memory) .0
 
-  count-again : length (tableOf img .ppas) ≡ getD img 3 0
+  count-again : length (tableOf img .ppas) ≡ getD img ppaCountOffset 0
   unfolding tableOf
-  count-again = listed-length (ppaAt img) 0 (getD img 3 0)
+  count-again = listed-length (ppaAt img) 0 (getD img ppaCountOffset 0)
 
   counter-again : be32 (tableOf img .counter) ≡ getD img 4 0 ∷ getD img 5 0 ∷ getD img 6 0 ∷ getD img 7 0 ∷ []
   unfolding tableOf
   counter-again = be32-back (getD img 4 0) (getD img 5 0) (getD img 6 0) (getD img 7 0) (h 5) (h 6) (h 7)
 
-  ppas-again : padTo 80 (joined ppaBytes (tableOf img .ppas)) ≡ part img 8 80
+  ppas-again : padTo placesSize (joined ppaBytes (tableOf img .ppas)) ≡ part img placesOffset placesSize
   unfolding tableOf ppaAt
   ppas-again =
-      pad-listed ppaBytes (ppaAt img) img 10 8 (getD img 3 0) 80
-      (λ k b. ppa-again (part img (ppaBase k) 10) (part-bytes img (ppaBase k) 10 h) (part-length img (ppaBase k) 10 (omega (arith, t .size, t .few))))
+      pad-listed ppaBytes (ppaAt img) img placeSize placesOffset (getD img ppaCountOffset 0) placesSize
+      (λ k b. ppa-again (ppaPart img k) (part-bytes img (ppaBase k) placeSize h) (part-length img (ppaBase k) placeSize (omega (arith, t .size, t .few))))
       (omega (arith, t .few)) (omega (arith, t .size)) (t .unused)
 
-  slots-again : joined slotBytes (tableOf img .slots) ≡ part img 88 672
+  slots-again : joined slotBytes (tableOf img .slots) ≡ part img slotsOffset slotsSize
   unfolding tableOf slotAt
   slots-again =
-      joined-listed slotBytes (slotAt img) img 42 88 0 16 λ i b.
-      slot-again (part img (slotBase i) 42) (part-bytes img (slotBase i) 42 h) (part-length img (slotBase i) 42 (omega (arith, t .size))) (t .slots i (omega arith))
+      joined-listed slotBytes (slotAt img) img slotSize slotsOffset 0 streamTotal λ i b.
+      slot-again (slotPart img i) (part-bytes img (slotBase i) slotSize h) (part-length img (slotBase i) slotSize (omega (arith, t .size))) (t .slots i (omega arith))
 
   image-again : imageOf (tableOf img) ≡ img
   unfolding imageOf headerBytes
   image-again =
       let m : be16 (maskOf (tableOf img .slots)) ≡ getD img 0 0 ∷ getD img 1 0 ∷ [] = rw mask-again (be16-back (getD img 0 0) (getD img 1 0) (h 1)) in
       (λ i. m i ++ (memory-again i ∷ count-again i ∷ []) ++ counter-again i ++ ppas-again i ++ slots-again i)
-      ∙ ap (λ (r : List ℕ). r ++ part img 8 80 ++ part img 88 672) (front img 8 (omega (arith, t .size)))
-      ∙ ap (λ (r : List ℕ). r ++ part img 88 672) (sym (part-add img 0 8 80))
-      ∙ sym (part-add img 0 88 672)
-      ∙ take-all 760 img (omega (arith, t .size))
+      ∙ ap (λ (r : List ℕ). r ++ part img placesOffset placesSize ++ part img slotsOffset slotsSize) (front img placesOffset (omega (arith, t .size)))
+      ∙ ap (λ (r : List ℕ). r ++ part img slotsOffset slotsSize) (sym (part-add img 0 placesOffset placesSize))
+      ∙ sym (part-add img 0 slotsOffset slotsSize)
+      ∙ take-all imageSize img (omega (arith, t .size))
 
 -- a tidy image is that of the table that it holds
 pub image-back : (img : List ℕ) → tidy img ≡ true → imageOf (tableOf img) ≡ img

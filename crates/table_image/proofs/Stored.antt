@@ -11,15 +11,17 @@ use Rattle.ledger.proofs.Lists.{joined-more, joined-kept}
 use Rattle.octets.specs.Numbers.{be16, be32}
 use Rattle.octets.specs.Runs.{paste}
 use Rattle.octets.specs.Blocks.{padTo}
-use Rattle.paper.specs.Base.{Slot, Table, slot, stream, waiting, closed, justOpened, withSlot, withStream, withNumbers, withCounter, withPpa, remembering}
+use Rattle.paper.specs.Base.{Slot, Table, slot, stream, waiting, closed, justOpened, withSlot, withStream, withNumbers, withCounter, withPpa, remembering, streamTotal, mostPpas, macSize}
 use Rattle.paper.specs.declared.Stream.{Stream}
 use Rattle.paper.specs.declared.Ppa.{Ppa}
 use Rattle.table_image.specs.Layout.{ppaBase, slotBase, maskOf, ppaBytes, streamBytes, waitingBytes, slotBytes, headerBytes, imageOf}
+use Rattle.table_image.specs.Layout.{maskOffset, ppaCountOffset, counterOffset, placesSize, slotSize, slotsOffset}
 use Rattle.table_image.specs.Shape.{Shaped}
 use Rattle.table_image.proofs.Bits.{mask-kept, mask-opened, mask-closed}
 use Rattle.octets.proofs.Pieces.{joined-paste}
 use Rattle.octets.proofs.Blocks.{pad-more}
 use Rattle.table_image.proofs.Shapes.{stream-length, slot-length, slots-wide, ppas-length, header-length}
+use Rattle.paper.specs.Saps.{mostOpen}
 
 -- the first eight bytes: a mask, a memory of openings, a count of PPAs, a counter
 abbrev pub firstBytes : ℕ → Bool → ℕ → ℕ → List ℕ
@@ -27,9 +29,9 @@ firstBytes m r n c = be16 m ++ (oneIf r ∷ n ∷ []) ++ be32 c
 
 -- a table's header with another mask and memory
 abbrev headed : ℕ → Bool → Table → List ℕ
-headed m r t = firstBytes m r (length (t .ppas)) (t .counter) ++ padTo 80 (joined ppaBytes (t .ppas))
+headed m r t = firstBytes m r (length (t .ppas)) (t .counter) ++ padTo placesSize (joined ppaBytes (t .ppas))
 
-module _ (t : Table) (s : Shaped t) (i : ℕ) (b : i < 16) where
+module _ (t : Table) (s : Shaped t) (i : ℕ) (b : i < streamTotal) where
   inside : i < length (t .slots)
   inside = omega (arith, s .sixteen)
 
@@ -39,7 +41,7 @@ module _ (t : Table) (s : Shaped t) (i : ℕ) (b : i < 16) where
       ≡ headed m (t .remembers) t ++ joined slotBytes (set (t .slots) i x)
   unfolding headerBytes
   front m x a c z e f g =
-      joined-paste slotBytes closed 42 (headed m (t .remembers) t) 88 (t .slots) i (header-length t s) (slots-wide t s) inside x a c z e f g
+      joined-paste slotBytes closed slotSize (headed m (t .remembers) t) slotsOffset (t .slots) i (header-length t s) (slots-wide t s) inside x a c z e f g
 
   -- the same, where the slot stays open or closed
   store-front : (x : Slot) (a c z : List ℕ) → x .isOpen ≡ slot t i .isOpen → slotBytes (slot t i) ≡ a ++ z → slotBytes x ≡ c ++ z
@@ -58,7 +60,7 @@ module _ (t : Table) (s : Shaped t) (i : ℕ) (b : i < 16) where
       (stream-length (stream t i) ∙ sym (stream-length q))
 
   -- a stream with them
-  pub store-numbers : (q : Stream) (w : List ℕ) → length w ≤ 8
+  pub store-numbers : (q : Stream) (w : List ℕ) → length w ≤ mostOpen
       → paste (imageOf t) (slotBase i) (streamBytes q ++ waitingBytes w) ≡ imageOf (withNumbers t i q w)
   unfolding withNumbers
   store-numbers q w h =
@@ -68,7 +70,7 @@ module _ (t : Table) (s : Shaped t) (i : ℕ) (b : i < 16) where
 
   -- a stream is opened: its bit is taken out of the mask, and the table remembers an opening
   pub store-opening : slot t i ≡ closed
-      → paste (imageOf t) 0 (be16 (maskOf (t .slots) - 2 ^ i) ++ (1 ∷ [])) ≡ imageOf (withSlot (remembering t) i justOpened)
+      → paste (imageOf t) maskOffset (be16 (maskOf (t .slots) - 2 ^ i) ++ (1 ∷ [])) ≡ imageOf (withSlot (remembering t) i justOpened)
   unfolding imageOf headerBytes withSlot remembering
   store-opening e =
       ap₂ (λ (m : ℕ) (l : List ℕ). headed m true t ++ l)
@@ -77,28 +79,28 @@ module _ (t : Table) (s : Shaped t) (i : ℕ) (b : i < 16) where
 
   -- a stream is closed: its bit is put into the mask, and its slot is zero
   pub store-closing : slot t i .isOpen ≡ true
-      → paste (paste (imageOf t) 0 (be16 (maskOf (t .slots) + 2 ^ i))) (slotBase i) (replicate 42 0) ≡ imageOf (withSlot t i closed)
+      → paste (paste (imageOf t) maskOffset (be16 (maskOf (t .slots) + 2 ^ i))) (slotBase i) (replicate slotSize 0) ≡ imageOf (withSlot t i closed)
   unfolding imageOf headerBytes withSlot streamBytes waitingBytes
   store-closing e =
-      front (maskOf (t .slots) + 2 ^ i) closed (slotBytes (slot t i)) (replicate 42 0) []
+      front (maskOf (t .slots) + 2 ^ i) closed (slotBytes (slot t i)) (replicate slotSize 0) []
       (sym (append-nil (slotBytes (slot t i)))) refl (slots-wide t s i)
       ∙ ap (λ (m : ℕ). headed m (t .remembers) t ++ joined slotBytes (set (t .slots) i closed))
       (sym (mask-closed (t .slots) i closed inside e refl))
 
 -- the counter
-pub store-counter : (t : Table) (n : ℕ) → paste (imageOf t) 4 (be32 n) ≡ imageOf (withCounter t n)
+pub store-counter : (t : Table) (n : ℕ) → paste (imageOf t) counterOffset (be32 n) ≡ imageOf (withCounter t n)
 unfolding imageOf headerBytes withCounter
 store-counter t n = refl
 
 -- one PPA more, and their number
-pub store-ppa : (t : Table) → Shaped t → (p : Ppa) → length (t .ppas) < 8 → length (p .mac) ≡ 6
-    → paste (paste (imageOf t) (ppaBase (length (t .ppas))) (ppaBytes p)) 3 (suc (length (t .ppas)) ∷ []) ≡ imageOf (withPpa t p)
+pub store-ppa : (t : Table) → Shaped t → (p : Ppa) → length (t .ppas) < mostPpas → length (p .mac) ≡ macSize
+    → paste (paste (imageOf t) (ppaBase (length (t .ppas))) (ppaBytes p)) ppaCountOffset (suc (length (t .ppas)) ∷ []) ≡ imageOf (withPpa t p)
 unfolding imageOf headerBytes withPpa
 store-ppa t s p h e =
     let n : ℕ = length (t .ppas) in
     let first : ℕ → List ℕ = λ k. firstBytes (maskOf (t .slots)) (t .remembers) k (t .counter) in
     let rest : List ℕ = joined slotBytes (t .slots) in
     let l : suc n ≡ length (t .ppas ++ (p ∷ [])) = omega (arith, length-append (t .ppas) (p ∷ [])) in
-    ap (λ (r : List ℕ). paste r 3 (suc n ∷ []))
-    (pad-more (first n) (joined ppaBytes (t .ppas)) (ppaBytes p) rest 80 (ppaBase n) (omega (arith, ppas-length t s)) (omega (arith, ppas-length t s)))
-    ∙ ap₂ (λ (k : ℕ) (r : List ℕ). first k ++ (padTo 80 r ++ rest)) l (sym (joined-more ppaBytes (t .ppas) p))
+    ap (λ (r : List ℕ). paste r ppaCountOffset (suc n ∷ []))
+    (pad-more (first n) (joined ppaBytes (t .ppas)) (ppaBytes p) rest placesSize (ppaBase n) (omega (arith, ppas-length t s)) (omega (arith, ppas-length t s)))
+    ∙ ap₂ (λ (k : ℕ) (r : List ℕ). first k ++ (padTo placesSize r ++ rest)) l (sym (joined-more ppaBytes (t .ppas) p))

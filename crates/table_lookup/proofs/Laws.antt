@@ -1,4 +1,4 @@
--- Who listens, and the PPAs in an image.
+-- Who listens, by whichever test comes first, and where an image has its PPAs: each in its own place.
 use Prim.Native.Nat.{ℕ, _+_, _<_}
 use native.Mathlib.Omega.{arith}
 use mathlib.Core.Path.{_≡_, refl, ap, _∙_}

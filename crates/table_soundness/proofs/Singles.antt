@@ -15,7 +15,7 @@ use Rattle.ledger.proofs.Tallies.{both-of}
 use Rattle.octets.specs.Runs.{part}
 use Rattle.table_soundness.specs.Groups.{isSingleIn, areSingle}
 
-abbrev pub singleOn : List ℕ → Bool
+abbrev singleOn : List ℕ → Bool
 singleOn [] = true
 singleOn (n ∷ l) = both (isSingleIn (n ∷ l) n) (singleOn l)
 

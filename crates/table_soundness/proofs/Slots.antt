@@ -18,12 +18,13 @@ use Rattle.octets.specs.Numbers.{be32At}
 use Rattle.octets.specs.Runs.{part, allZero}
 use Rattle.octets.proofs.Numbers.{be32At-be32, be32At-part}
 use Rattle.octets.proofs.Runs.{zero-replicate}
-use Rattle.paper.specs.Base.{numberOf, Slot, closed, Table, slot, ppaNumbers, noPpa}
+use Rattle.paper.specs.Base.{numberOf, Slot, closed, Table, slot, ppaNumbers, noPpa, stream, waiting, streamTotal, mostPpas}
 use Rattle.paper.specs.Sound.{every, holdsNothing, openTests, soundSlot, isSingle, isAlone, remembersOpenings, sound}
 use Rattle.paper.specs.Correlations.{occurrences}
 use Rattle.paper.specs.declared.Stream.{Stream}
 use Rattle.paper.specs.declared.Ppa.{Ppa}
-use Rattle.table_image.specs.Layout.{ppaBase, slotBase, slotParts, ppaFrom, ppaAt, tableOf, streamBytes, waitingBytes, slotBytes, headerBytes, imageOf}
+use Rattle.table_image.specs.Layout.{ppaBase, slotBase, slotParts, ppaFrom, ppaAt, tableOf, streamBytes, waitingBytes, slotBytes}
+use Rattle.table_image.specs.Layout.{headerBytes, imageOf, placeSize, countOffset, numbersOffset, slotSize, slotsOffset, slotPart}
 use Rattle.table_image.specs.Lent.{Lent}
 use Rattle.octets.proofs.Pieces.{joined-at}
 use Rattle.table_image.proofs.Shapes.{slots-wide, header-length}
@@ -33,11 +34,10 @@ use Rattle.paper.proofs.SoundTests.{holds-nothing}
 
 -- ---- the bytes of a slot
 
-pub slot-of-parts : (img : List ℕ) (i : ℕ) → i < 16 → getD (slotParts img) i [] ≡ part img (slotBase i) 42
+pub slot-of-parts : (img : List ℕ) (i : ℕ) → i < streamTotal → getD (slotParts img) i [] ≡ slotPart img i
 slot-of-parts img i h =
-    let at : ℕ → List ℕ = λ k. part img (slotBase k) 42 in
     let z : 0 + i ≡ i = omega arith in
-    listed-at at 0 16 i [] h ∙ ap at z
+    listed-at (slotPart img) 0 streamTotal i [] h ∙ ap (slotPart img) z
 
 -- ---- PPA numbers
 
@@ -50,15 +50,16 @@ ppa-number-at img k h =
     let c : List ℕ = drop (ppaBase k) img in
     let number : Ppa → ℕ = λ p. p .number .0 in
     sym (be32At-part img (ppaBase k))
-    ∙ ap (λ (r : List ℕ). be32At r 0) (sym (take-take 4 10 c (omega arith)))
-    ∙ be32At-part (take 10 c) 0
+    ∙ ap (λ (r : List ℕ). be32At r 0) (sym (take-take 4 placeSize c (omega arith)))
+    ∙ be32At-part (take placeSize c) 0
     ∙ ap number (sym (ppa-place img k h))
     ∙ sym (map-at number noPpa (tableOf img .ppas) k)
 
 -- ---- open streams
 
 -- the tests in their groups
-pub grouped : (ppas : List ℕ) (x : Slot) → every (openTests ppas x) ≡ both (isAttachedRight ppas (x .stream)) (both (isBoundRight (x .stream)) (isCountRight (x .stream) (length (x .waiting))))
+pub grouped : (ppas : List ℕ) (x : Slot) → every (openTests ppas x)
+    ≡ both (isAttachedRight ppas (x .stream)) (both (isBoundRight (x .stream)) (isCountRight (x .stream) (length (x .waiting))))
 unfolding isAttachedRight isBoundRight isCountRight
 grouped ppas x = simp (both-assoc, both-true)
 
@@ -70,28 +71,34 @@ none-waits (suc n) g = rw (eqb·suc-zero n, lt-ltb 0 (suc n) (omega arith))
 -- ---- closed streams
 
 -- its bytes up to the count of open numbers are zero, and no other's
-zeros : (x : Slot) → allZero (take 10 (slotBytes x)) ≡ holdsNothing x
+zeros : (x : Slot) → allZero (take numbersOffset (slotBytes x)) ≡ holdsNothing x
 unfolding streamBytes waitingBytes holdsNothing
-zeros x = same-test (allZero (take 10 (slotBytes x))) (holdsNothing x) none (λ e. ap (λ (y : Slot). allZero (take 10 (slotBytes y))) (holds-nothing x e))
+zeros x = same-test (allZero (take numbersOffset (slotBytes x))) (holdsNothing x) none (λ e. ap (λ (y : Slot). allZero (take numbersOffset (slotBytes y))) (holds-nothing x e))
   where
-    none : allZero (take 10 (slotBytes x)) ≡ true → holdsNothing x ≡ true
+    none : allZero (take numbersOffset (slotBytes x)) ≡ true → holdsNothing x ≡ true
     none e =
         let s : Stream = x .stream in
-        let byte : (k : ℕ) → getD (take 10 (slotBytes x)) k 0 ≡ getD (replicate 10 0) k 0 = λ k. ap (λ (r : List ℕ). getD r k 0) (zero-replicate (take 10 (slotBytes x)) e) in
+        let byte : (k : ℕ) → getD (take numbersOffset (slotBytes x)) k 0 ≡ getD (replicate numbersOffset 0) k 0 =
+        λ k. ap (λ (r : List ℕ). getD r k 0) (zero-replicate (take numbersOffset (slotBytes x)) e) in
         to-both _ _ (eq-eqb (numberOf (s .state)) 0 (byte 0))
         (to-both _ _ (eq-eqb (s .ppa .0) 0 (sym (be32At-be32 (s .ppa .0) []) ∙ (λ d. byte 4 d * 16777216 + byte 5 d * 65536 + byte 6 d * 256 + byte 7 d)))
-        (to-both _ _ (to-both _ _ (eq-eqb (s .mode) 0 (byte 1)) (to-both _ _ (eq-eqb (s .sap) 0 (omega (arith, byte 2, byte 3))) (to-both _ _ (eq-eqb (s .granted) 0 (byte 8)) refl)))
-        (eq-eqb (length (x .waiting)) 0 (byte 9))))
+        (to-both _ _
+        (to-both _ _ (eq-eqb (s .mode) 0 (byte 1))
+        (to-both _ _ (eq-eqb (s .sap) 0 (omega (arith, byte 2, byte 3))) (to-both _ _ (eq-eqb (s .granted) 0 (byte 8)) refl)))
+        (eq-eqb (length (x .waiting)) 0 (byte countOffset))))
 
-pub closed-bytes : (img : List ℕ) → Lent img → (i : ℕ) → i < 16 → allZero (part img (slotBase i) 10) ≡ holdsNothing (slot (tableOf img) i)
+pub closed-bytes : (img : List ℕ) → Lent img → (i : ℕ) → i < streamTotal → allZero (part img (slotBase i) numbersOffset) ≡ holdsNothing (slot (tableOf img) i)
 unfolding imageOf
 closed-bytes img l i h =
     let t : Table = tableOf img in
     ap allZero
-    (sym (take-take 10 42 (drop (slotBase i) img) (omega arith))
-    ∙ ap (λ (r : List ℕ). take 10 (part r (slotBase i) 42)) (sym (l .same))
-    ∙ ap (λ (r : List ℕ). take 10 (part (headerBytes t ++ r) (slotBase i) 42)) (sym (append-nil (joined slotBytes (t .slots))))
-    ∙ ap (take 10) (joined-at slotBytes closed 42 (headerBytes t) 88 (t .slots) i (header-length t (l .shaped)) (slots-wide t (l .shaped)) (omega (arith, l .shaped .sixteen)) []))
+    (sym (take-take numbersOffset slotSize (drop (slotBase i) img) (omega arith))
+    ∙ ap (λ (r : List ℕ). take numbersOffset (slotPart r i)) (sym (l .same))
+    ∙ ap (λ (r : List ℕ). take numbersOffset (slotPart (headerBytes t ++ r) i)) (sym (append-nil (joined slotBytes (t .slots))))
+    ∙ ap (take numbersOffset) (joined-at slotBytes closed slotSize (headerBytes t) slotsOffset (t .slots) i (header-length t (l .shaped)) (slots-wide t (l .shaped)) (omega (
+      arith,
+      l .shaped .sixteen,
+    )) []))
     ∙ zeros (slot t i)
 
 -- ---- the clauses, those of the streams in one
@@ -101,10 +108,11 @@ singles : (t : Table) → allOf (λ (x : Slot). allOf (isSingle t) (x .waiting))
 unfolding isSingle occurrences isSingleIn
 singles t =
     let numbers : Slot → List ℕ = λ x. x .waiting in
-    let p : (n : ℕ) → isSingle t n ≡ isSingleIn (openNumbers t) n = λ n. ap (λ (m : ℕ). both (ltb 0 n) (leb m 1)) (occ-joined numbers n (t .slots)) in
+    let p : (n : ℕ) → isSingle t n ≡ isSingleIn (openNumbers t) n =
+    λ n. ap (λ (m : ℕ). both (ltb 0 n) (leb m 1)) (occ-joined numbers n (t .slots)) in
     all-joined numbers (isSingle t) (t .slots) ∙ ap (λ (q : ℕ → Bool). allOf q (openNumbers t)) (λ d n. p n d)
 
-pub sound-groups : (t : Table) → length (t .ppas) ≤ 8
+pub sound-groups : (t : Table) → length (t .ppas) ≤ mostPpas
     → sound t
     ≡ both (allOf (λ (p : ℕ). leb (occ p (ppaNumbers t)) 1) (ppaNumbers t))
     (both (allOf (isStreamSound t) (t .slots)) (both (areSingle (openNumbers t)) (remembersOpenings t)))
@@ -113,4 +121,7 @@ sound-groups t h =
     let own : Slot → Bool = soundSlot (ppaNumbers t) in
     let single : Slot → Bool = λ x. allOf (isSingle t) (x .waiting) in
     let alone : Slot → Bool = λ x. isAlone t (x .stream) in
-    rw (le-leb (length (t .ppas)) 8 h, both-true (remembersOpenings t), ← singles t, all-both own alone (t .slots), both-assoc (allOf own (t .slots)) (allOf alone (t .slots)), both-swap (allOf alone (t .slots)) (allOf single (t .slots)))
+    let owns : Bool = allOf own (t .slots) in
+    let alones : Bool = allOf alone (t .slots) in
+    rw (le-leb (length (t .ppas)) mostPpas h, both-true (remembersOpenings t), ← singles t)
+    (rw (all-both own alone (t .slots), both-assoc owns alones, both-swap alones (allOf single (t .slots))))

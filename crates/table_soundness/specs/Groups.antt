@@ -6,7 +6,7 @@ use lib.Dec.{eqb, ltb, leb}
 use Rattle.ledger.specs.Choice.{pick, both, asks}
 use Rattle.ledger.specs.Tally.{occ, has, allOf}
 use Rattle.ledger.specs.Lists.{joined}
-use Rattle.paper.specs.Base.{isIn, isAmong, boundStates, connectionStates, Slot, Table, ppaNumbers}
+use Rattle.paper.specs.Base.{isIn, isAmong, boundStates, connectionStates, Slot, Table, ppaNumbers, stream, waiting}
 use Rattle.paper.specs.Saps.{asBindAllows}
 use Rattle.paper.specs.Sound.{every, sameAnswer, unbound, soundSlot, isAlone}
 use Rattle.paper.specs.declared.Stream.{Stream}

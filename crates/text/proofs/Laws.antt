@@ -10,7 +10,7 @@ use lib.Seq.{take-suc}
 use borrow.Author.Tests.{lt-ltb, le-ltb}
 use Rattle.ledger.proofs.Tallies.{picked}
 use Rattle.ledger.proofs.Lists.{set-begins}
-use Rattle.text.specs.Digits.{digit, digits, decimal, hex}
+use Rattle.text.specs.Digits.{digit, digits, mostDigits, decimal, hex}
 
 -- ---- decimal
 
@@ -28,9 +28,9 @@ tenth (suc k) n a h =
     rw e (omega (arith, h))
 
 -- none stand there at first
-pub digits-none : (n : ℕ) (l : List ℕ) → length l ≤ 20 → digits 20 n ++ drop 20 l ≡ decimal n
+pub digits-none : (n : ℕ) (l : List ℕ) → length l ≤ mostDigits → digits mostDigits n ++ drop mostDigits l ≡ decimal n
 unfolding decimal
-digits-none n l h = ap (λ (r : List ℕ). digits 20 n ++ r) (drop-of-length-le l h) ∙ append-nil (digits 20 n)
+digits-none n l h = ap (λ (r : List ℕ). digits mostDigits n ++ r) (drop-of-length-le l h) ∙ append-nil (digits mostDigits n)
 
 -- one digit more before those that stand there already
 pub digit-before : (k n : ℕ) (l : List ℕ) → 10 ≤ n → 1 ≤ k → k ≤ length l
@@ -59,9 +59,9 @@ digits-most (suc k) n =
     (λ e. omega arith)
     (λ e. omega (arith, digits-most k (n / 10), length-append (digits k (n / 10)) ((48 + n % 10) ∷ [])))
 
-pub decimal-most : (n : ℕ) → length (decimal n) ≤ 20
+pub decimal-most : (n : ℕ) → length (decimal n) ≤ mostDigits
 unfolding decimal
-decimal-most n = digits-most 20 n
+decimal-most n = digits-most mostDigits n
 
 -- ---- hex
 

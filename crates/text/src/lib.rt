@@ -1,16 +1,19 @@
 // Text in bytes, from a place of a buffer on: numbers in decimal, bytes in hex. Each writer answers with the place behind.
 ghost use mathlib.Core.Path.{_≡_};
 ghost use Prim.Native.Nat.{_+_, _*_, _<_, _≤_};
-ghost use lib.ListN.{length, drop};
-ghost use Rattle.octets.specs.Runs.{paste};
-ghost use Rattle.text.specs.Digits.{digit, decimal, hex};
+ghost use lib.ListN.{length};
+ghost use Rattle.octets.specs.Writing.{Wrote, WroteMost};
+ghost use Rattle.text.specs.Digits.{mostDigits, digit, decimal, DigitsFrom, hex};
 
-// The digits of a number at the end of 20 bytes; where they begin.
+// 64 bits have no more.
+const MOST_DIGITS: usize = 20;
+
+// The digits of a number at the end of the bytes lent; where they begin.
 fn put_digits(digits: &mut [u8], n: u64) -> usize
-    requires { ⌜ length (now digits) ≡ 20 ⌝ }
-    ensures { λ r. ⌜ (r < 20) × (length (now (digits .exit)) ≡ 20) × (drop r (now (digits .exit)) ≡ decimal n) ⌝ }
+    requires { ⌜ length (now digits) ≡ mostDigits ⌝ }
+    ensures { λ r. ⌜ DigitsFrom n r (now (digits .exit)) ⌝ }
 {
-    let mut from: usize = 20;
+    let mut from = MOST_DIGITS;
     let mut rest = n;
     while 10 <= rest {
         from -= 1;
@@ -24,13 +27,13 @@ fn put_digits(digits: &mut [u8], n: u64) -> usize
 
 // A number in decimal.
 pub fn put_decimal(out: &mut [u8], at: usize, n: u64) -> usize
-    requires { ⌜ at + 20 ≤ length (now out) ⌝ }
-    ensures { λ r. ⌜ (r ≡ at + length (decimal n)) × (now (out .exit) ≡ paste (now (out .entry)) at (decimal n)) ⌝ }
+    requires { ⌜ at + mostDigits ≤ length (now out) ⌝ }
+    ensures { λ r. ⌜ WroteMost mostDigits (decimal n) at r (now (out .entry)) (now (out .exit)) ⌝ }
 {
-    let mut digits = [0u8; 20];
+    let mut digits = [0u8; MOST_DIGITS];
     let from = put_digits(&mut digits, n);
     octets::put_bytes(out, at, &digits[from..]);
-    at + (20 - from)
+    at + (MOST_DIGITS - from)
 }
 
 // A digit below 16, in small letters.
@@ -47,7 +50,7 @@ fn digit(d: u8) -> u8
 // Bytes in hex.
 pub fn put_hex(out: &mut [u8], at: usize, bytes: &[u8]) -> usize
     requires { ⌜ at + 2 * length (now bytes) ≤ length (now out) ⌝ }
-    ensures { λ r. ⌜ (r ≡ at + length (hex (now (bytes .entry)))) × (now (out .exit) ≡ paste (now (out .entry)) at (hex (now (bytes .entry)))) ⌝ }
+    ensures { λ r. ⌜ WroteMost (2 * length (now (bytes .entry))) (hex (now (bytes .entry))) at r (now (out .entry)) (now (out .exit)) ⌝ }
 {
     let mut i = 0;
     while i < bytes.len() {
@@ -61,7 +64,7 @@ pub fn put_hex(out: &mut [u8], at: usize, bytes: &[u8]) -> usize
 // Bytes as they are.
 pub fn put_word(out: &mut [u8], at: usize, word: &[u8]) -> usize
     requires { ⌜ at + length (now word) ≤ length (now out) ⌝ }
-    ensures { λ r. ⌜ (r ≡ at + length (now (word .entry))) × (now (out .exit) ≡ paste (now (out .entry)) at (now (word .entry))) ⌝ }
+    ensures { λ r. ⌜ Wrote (now (word .entry)) at r (now (out .entry)) (now (out .exit)) ⌝ }
 {
     octets::put_bytes(out, at, word);
     at + word.len()

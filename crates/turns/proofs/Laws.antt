@@ -5,8 +5,8 @@ use mathlib.Core.Bool.{false}
 use lib.Dec.{eqb}
 use borrow.Author.Tests.{eqb-false}
 use Rattle.ledger.proofs.Tallies.{either-no}
-use Rattle.turns.specs.Turns.{isOver}
+use Rattle.turns.specs.Turns.{mostCalls, isOver}
 use Rattle.turns.specs.declared.Turn.{Turn}
 
-pub not-over : (t : Turn) → isOver t ≡ false → t .calls ≡ 18446744073709551615 → ⊥
-not-over t e = eqb-false (t .calls) 18446744073709551615 (either-no (eqb (t .end - t .start) 0) (eqb (t .calls) 18446744073709551615) e .1)
+pub not-over : (t : Turn) → isOver t ≡ false → t .calls ≡ mostCalls → ⊥
+not-over t e = eqb-false (t .calls) mostCalls (either-no (eqb (t .end - t .start) 0) (eqb (t .calls) mostCalls) e .1)

@@ -1,6 +1,6 @@
 -- The turns of a program that reads records on its input and prints a text for each call: what a call makes of them, and
 -- what holds between two.
-use Prim.Native.Nat.{ℕ, _+_, _-_, _≤_}
+use Prim.Native.Nat.{ℕ, _+_, _-_, _≤_, _<_}
 use mathlib.Core.Path.{_≡_}
 use mathlib.Core.Bool.{Bool, true, false, not}
 use mathlib.Core.List.{List}
@@ -9,9 +9,21 @@ use lib.ListN.{length, take}
 use Rattle.ledger.specs.Choice.{both, either, _⇒_∣_}
 use Rattle.ledger.specs.Tally.{oneIf}
 use Rattle.octets.specs.Runs.{part}
-use Rattle.paper.specs.RecordsIn.{recordSize}
+use Rattle.paper.specs.RecordsIn.{messageSize, recordSize}
 use Rattle.call_outcomes.specs.Leaving.{Left, callMade}
 use Rattle.turns.specs.declared.Turn.{Turn}
+
+-- a buffer of the program
+abbrev pub bufferSize : ℕ
+bufferSize = 65536
+
+-- what may wait to be written while a call is made: the text of a call has room behind it
+abbrev mostWaiting : ℕ
+mostWaiting = 45000
+
+-- 64 bits count no more
+abbrev pub mostCalls : ℕ
+mostCalls = 18446744073709551615
 
 -- Nothing is read and nothing counted.
 abbrev pub firstTurn : ℕ → Turn
@@ -38,11 +50,11 @@ callOn table input t = callMade table (unread input t)
 
 -- A record may be cut, and more bytes may come.
 abbrev pub waits : Turn → Bool
-waits t = both (ltb (t .end - t .start) 99) (not (t .ended))
+waits t = both (ltb (t .end - t .start) messageSize) (not (t .ended))
 
 -- No bytes are left, or no numbers to count calls with.
 abbrev pub isOver : Turn → Bool
-isOver t = either (eqb (t .end - t .start) 0) (eqb (t .calls) 18446744073709551615)
+isOver t = either (eqb (t .end - t .start) 0) (eqb (t .calls) mostCalls)
 
 abbrev pub stopping : Turn → Turn
 stopping t = record {
@@ -77,34 +89,58 @@ turnAfter input text refused t = waits t ⇒ t ∣ isOver t ⇒ stopping t ∣ a
 unfoldable pub afterTurn : Turn → List ℕ → List ℕ → List ℕ
 afterTurn t before after = waits t ⇒ before ∣ isOver t ⇒ before ∣ after
 
--- ---- reading on and writing out
-
--- Reading on loses nothing: what was not read yet stands before what came.
-pub record Fed (input : List ℕ) (t : Turn) (input' : List ℕ) (t' : Turn) : Type 0 where
-  pub kept : take (t .end - t .start) (unread input' t') ≡ unread input t
-  pub filled : t' .filled ≡ t .filled
-  pub calls : t' .calls ≡ t .calls
-  pub refused : t' .refused ≡ t .refused
-
--- Writing out changes nothing of what is read and counted.
-pub record Drained (t t' : Turn) : Type 0 where
-  pub start : t' .start ≡ t .start
-  pub end : t' .end ≡ t .end
-  pub ended : t' .ended ≡ t .ended
-  pub calls : t' .calls ≡ t .calls
-  pub refused : t' .refused ≡ t .refused
-
--- ---- what holds between two turns: where the program stands in its buffers of 65,536 bytes
+-- ---- what holds between two turns: where the program stands in its buffers
 
 pub record Fine (t : Turn) : Type 0 where
   pub order : t .start ≤ t .end
-  pub within : t .end ≤ 65536
-  pub fits : t .filled ≤ 65536
+  pub within : t .end ≤ bufferSize
+  pub fits : t .filled ≤ bufferSize
   pub counted : t .refused ≤ t .calls
 
 -- with room for what a call prints
 pub record Ready (t : Turn) : Type 0 where
   pub order : t .start ≤ t .end
-  pub within : t .end ≤ 65536
-  pub fits : t .filled ≤ 45000
+  pub within : t .end ≤ bufferSize
+  pub fits : t .filled ≤ mostWaiting
   pub counted : t .refused ≤ t .calls
+
+-- a turn that is this one
+pub record FineAs (t r : Turn) : Type 0 where
+  pub is : r ≡ t
+  pub fine : Fine r
+
+-- a buffer, and where the program stands in it
+pub record Buffer (bytes : List ℕ) (t : Turn) : Type 0 where
+  pub long : length bytes ≡ bufferSize
+  pub fine : Fine t
+
+-- the input, what the output is filled to, and a number for one call more
+pub record CallMade (input : List ℕ) (filled : ℕ) (t : Turn) : Type 0 where
+  pub long : length input ≡ bufferSize
+  pub fits : filled ≤ bufferSize
+  pub ready : Ready t
+  pub numbered : t .calls < mostCalls
+
+-- some bytes of a buffer, no more than a longest record has
+pub record Rest (n from : ℕ) (buffer : List ℕ) : Type 0 where
+  pub few : n ≤ messageSize
+  pub within : from + n ≤ length buffer
+
+-- ---- reading on and writing out
+
+-- Reading on loses nothing: what was not read yet stands before what came.
+pub record Fed (input : List ℕ) (t : Turn) (input' : List ℕ) (t' : Turn) : Type 0 where
+  pub fine : Fine t'
+  pub kept : take (t .end - t .start) (unread input' t') ≡ unread input t
+  pub filled : t' .filled ≡ t .filled
+  pub calls : t' .calls ≡ t .calls
+  pub refused : t' .refused ≡ t .refused
+
+-- Writing out makes room, and changes nothing of what is read and counted.
+pub record Drained (t t' : Turn) : Type 0 where
+  pub ready : Ready t'
+  pub start : t' .start ≡ t .start
+  pub end : t' .end ≡ t .end
+  pub ended : t' .ended ≡ t .ended
+  pub calls : t' .calls ≡ t .calls
+  pub refused : t' .refused ≡ t .refused

@@ -1,10 +1,15 @@
 // Where a program stands that reads records on standard input and prints a text for each call; how it reads on and writes out.
 ghost use mathlib.Core.Path.{_≡_};
 ghost use Prim.Native.Nat.{_+_, _<_, _≤_};
-ghost use lib.ListN.{length};
 ghost use Rattle.ledger.specs.Tally.{oneIf};
 ghost use Rattle.octets.specs.Runs.{part, paste};
-ghost use Rattle.turns.specs.Turns.{firstTurn, waits, isOver, stopping, afterCall, Fed, Drained, Fine, Ready};
+ghost use Rattle.turns.specs.Turns.{bufferSize, mostCalls, firstTurn, waits, isOver, stopping, afterCall};
+ghost use Rattle.turns.specs.Turns.{Ready, FineAs, Buffer, CallMade, Rest, Fed, Drained};
+
+// What may wait to be written while a call is made: the text of a call has room behind it.
+const MOST_WAITING: usize = 45000;
+// 64 bits count no more.
+pub const MOST_CALLS: u64 = 0xffffffffffffffff;
 
 // Where the bytes not yet read stand in the input, whether there are more to come, and how much of the output is filled;
 // how many calls were made, and how many refused; whether to go on, and whether reading or writing failed.
@@ -21,8 +26,8 @@ pub struct Turn {
 
 // Nothing is read and nothing counted; the output may have a first line.
 pub fn first_turn(filled: usize) -> Turn
-    requires { ⌜ filled ≤ 65536 ⌝ }
-    ensures { λ r. ⌜ (r ≡ firstTurn filled) × Fine r ⌝ }
+    requires { ⌜ filled ≤ bufferSize ⌝ }
+    ensures { λ r. ⌜ FineAs (firstTurn filled) r ⌝ }
 {
     Turn {
         start: 0,
@@ -36,24 +41,24 @@ pub fn first_turn(filled: usize) -> Turn
     }
 }
 
-// Bytes of a buffer, fewer than a longest record has, to its start.
+// Bytes of a buffer, no more than a longest record has, to its start.
 fn shift(buf: &mut [u8], from: usize, n: usize)
-    requires { ⌜ (n ≤ 99) × (from + n ≤ length (now buf)) ⌝ }
+    requires { ⌜ Rest n from (now buf) ⌝ }
     ensures { λ _. ⌜ now (buf .exit) ≡ paste (now (buf .entry)) 0 (part (now (buf .entry)) from n) ⌝ }
 {
-    let mut rest = [0u8; 99];
+    let mut rest = [0u8; paper::MESSAGE_SIZE];
     octets::put_bytes(&mut rest, 0, &buf[from..from + n]);
     octets::put_bytes(buf, 0, &rest[0..n]);
 }
 
 // More input, where a record may be cut: what is left goes to the front, and one read follows it.
 pub fn fed(input: &mut [u8], t: Turn) -> Turn
-    requires { ⌜ (length (now input) ≡ 65536) × Fine t ⌝ }
-    ensures { λ r. ⌜ Fine r × Fed (now (input .entry)) t (now (input .exit)) r ⌝ }
+    requires { ⌜ Buffer (now input) t ⌝ }
+    ensures { λ r. ⌜ Fed (now (input .entry)) t (now (input .exit)) r ⌝ }
 {
     let start = t.start;
     let left = t.end - start;
-    if 99 <= left || t.ended {
+    if paper::MESSAGE_SIZE <= left || t.ended {
         return t;
     }
     shift(input, start, left);
@@ -73,11 +78,11 @@ pub fn fed(input: &mut [u8], t: Turn) -> Turn
 
 // Output to be written, where little room is left.
 pub fn drained(output: &[u8], t: Turn) -> Turn
-    requires { ⌜ (length (now output) ≡ 65536) × Fine t ⌝ }
-    ensures { λ r. ⌜ Ready r × Drained t r ⌝ }
+    requires { ⌜ Buffer (now output) t ⌝ }
+    ensures { λ r. ⌜ Drained t r ⌝ }
 {
     let filled = t.filled;
-    if filled <= 45000 {
+    if filled <= MOST_WAITING {
         return t;
     }
     let written = io::write_all(1, &output[0..filled]);
@@ -98,7 +103,7 @@ pub fn waits(t: Turn) -> bool
     requires { ⌜ Ready t ⌝ }
     ensures { λ r. ⌜ r ≡ waits t ⌝ }
 {
-    if t.end - t.start < 99 {
+    if t.end - t.start < paper::MESSAGE_SIZE {
         return !t.ended;
     }
     false
@@ -112,13 +117,13 @@ pub fn is_over(t: Turn) -> bool
     if t.end - t.start == 0 {
         return true;
     }
-    t.calls == 0xffffffffffffffff
+    t.calls == MOST_CALLS
 }
 
 // No more turns.
 pub fn stopped(t: Turn) -> Turn
     requires { ⌜ Ready t ⌝ }
-    ensures { λ r. ⌜ (r ≡ stopping t) × Fine r ⌝ }
+    ensures { λ r. ⌜ FineAs (stopping t) r ⌝ }
 {
     Turn {
         start: t.start,
@@ -134,7 +139,7 @@ pub fn stopped(t: Turn) -> Turn
 
 // One more, where a call was refused.
 fn one_more_if(n: u64, refused: bool) -> u64
-    requires { ⌜ n < 18446744073709551615 ⌝ }
+    requires { ⌜ n < mostCalls ⌝ }
     ensures { λ r. ⌜ r ≡ n + oneIf refused ⌝ }
 {
     if refused {
@@ -145,8 +150,8 @@ fn one_more_if(n: u64, refused: bool) -> u64
 
 // A call was made on what is not read yet: how far its text fills the output, and whether it was refused.
 pub fn after_call(input: &[u8], filled: usize, refused: bool, t: Turn) -> Turn
-    requires { ⌜ (length (now input) ≡ 65536) × (filled ≤ 65536) × Ready t × (t .calls < 18446744073709551615) ⌝ }
-    ensures { λ r. ⌜ (r ≡ afterCall (now (input .entry)) filled refused t) × Fine r ⌝ }
+    requires { ⌜ CallMade (now input) filled t ⌝ }
+    ensures { λ r. ⌜ FineAs (afterCall (now (input .entry)) filled refused t) r ⌝ }
 {
     let start = t.start;
     let end = t.end;

@@ -3,14 +3,19 @@ ghost use mathlib.Core.Path.{_≡_};
 ghost use Prim.Native.Nat.{_≤_};
 ghost use lib.ListN.{length};
 ghost use Rattle.octets.specs.Runs.{part};
+ghost use Rattle.octets.specs.Blocks.{blockSize};
+ghost use Rattle.paper.specs.Base.{addressSize};
 ghost use Rattle.paper.specs.Messages.{codeIn, otherCode, primitiveOf, sized, readAs, askedBy};
 ghost use Rattle.paper.specs.declared.Primitive.the-variants as primitive;
+ghost use Rattle.wire_messages.specs.Whole.{Whole};
+use paper::ADDRESS_SIZE;
 use paper::Asked;
 use paper::BindRequest;
 use paper::ConnectRequest;
 use paper::ConnectResponse;
 use paper::Correlation;
 use paper::DisconnectRequest;
+use paper::MAC_SIZE;
 use paper::PpaNumber;
 use paper::Primitive;
 use paper::Request;
@@ -93,7 +98,7 @@ fn bind_in(m: &[u8]) -> Asked
 
 // The offset is the user's word: the address may end past the message, where its last byte reads as 0.
 fn connect_in(m: &[u8]) -> Asked
-    requires { ⌜ length (now m) ≤ 96 ⌝ }
+    requires { ⌜ length (now m) ≤ blockSize ⌝ }
     ensures { λ r. ⌜ r ≡ readAs primitive.Connect (now (m .entry)) ⌝ }
 {
     let offset = octets::number32_at(m, 8);
@@ -102,7 +107,7 @@ fn connect_in(m: &[u8]) -> Asked
         offset,
         qos: octets::number32_at(m, 12),
         size: m.len() as u8,
-        last: octets::byte_at(m, offset as usize + 6),
+        last: octets::byte_at(m, offset as usize + MAC_SIZE),
     };
     of_size(24, m, Request::Connect(asked))
 }
@@ -130,7 +135,7 @@ fn disconnect_in(m: &[u8]) -> Asked
 
 // Step 1 of the order of errors: what a message of at least four bytes asks for.
 pub fn asked_by(m: &[u8]) -> Asked
-    requires { ⌜ (4 ≤ length (now m)) × (length (now m) ≤ 96) ⌝ }
+    requires { ⌜ Whole (now m) ⌝ }
     ensures { λ r. ⌜ r ≡ askedBy (now (m .entry)) ⌝ }
 {
     match primitive_of(code_in(m)) {
@@ -152,7 +157,7 @@ pub fn asked_by(m: &[u8]) -> Asked
 
 // An address is seven bytes: the MAC, then the SAP.
 pub fn address_at<'a>(m: &'a [u8], at: u8) -> &'a [u8]
-    ensures { λ r. ⌜ now r ≡ part (now (m .entry)) at 7 ⌝ }
+    ensures { λ r. ⌜ now r ≡ part (now (m .entry)) at addressSize ⌝ }
 {
-    octets::part_at(m, at as usize, 7)
+    octets::part_at(m, at as usize, ADDRESS_SIZE)
 }

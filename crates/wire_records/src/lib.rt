@@ -2,11 +2,16 @@
 ghost use mathlib.Core.Path.{_≡_};
 ghost use Prim.Native.Nat.{_≤_};
 ghost use lib.ListN.{length};
-ghost use Rattle.paper.specs.RecordsIn.{kindOf, sizeOf, recordSize, hasNonzeroPadding, inputAs, inputOf};
+ghost use Rattle.paper.specs.RecordsIn.{kindOf, messageSize, sizeOf, recordSize, hasNonzeroPadding, inputAs, inputOf};
 ghost use Rattle.paper.specs.declared.Kind.the-variants as kind;
+use octets::BLOCK_SIZE;
+use paper::ADDRESS_SIZE;
 use paper::Correlation;
+use paper::HEAD_SIZE;
 use paper::Input;
 use paper::Kind;
+use paper::MAC_SIZE;
+use paper::MESSAGE_SIZE;
 use paper::PpaNumber;
 
 // The letters.
@@ -34,16 +39,16 @@ fn size_of(k: Kind) -> usize
     ensures { λ r. ⌜ r ≡ sizeOf k ⌝ }
 {
     match k {
-        Kind::AddPpa => 11,
+        Kind::AddPpa => 1 + 4 + MAC_SIZE,
         Kind::Open => 1,
-        Kind::Close => 2,
-        Kind::Message => 99,
-        Kind::CallArrives => 19,
-        Kind::PeerAccepted => 9,
-        Kind::PeerGone => 6,
-        Kind::CallWithdrawn => 10,
-        Kind::PeerReset => 6,
-        Kind::ResetConfirmed => 2,
+        Kind::Close => 1 + 1,
+        Kind::Message => MESSAGE_SIZE,
+        Kind::CallArrives => 1 + 4 + ADDRESS_SIZE + ADDRESS_SIZE,
+        Kind::PeerAccepted => 1 + 1 + ADDRESS_SIZE,
+        Kind::PeerGone => 1 + 1 + 4,
+        Kind::CallWithdrawn => 1 + 1 + 4 + 4,
+        Kind::PeerReset => 1 + 1 + 4,
+        Kind::ResetConfirmed => 1 + 1,
         Kind::Unknown => 0,
     }
 }
@@ -61,20 +66,20 @@ pub fn record_size(r: &[u8]) -> usize
 
 // A byte of the block past L is not zero. With L over 96 there are none.
 fn has_nonzero_padding(r: &[u8]) -> bool
-    requires { ⌜ 99 ≤ length (now r) ⌝ }
+    requires { ⌜ messageSize ≤ length (now r) ⌝ }
     ensures { λ q. ⌜ q ≡ hasNonzeroPadding (now (r .entry)) ⌝ }
 {
     let l = octets::byte_at(r, 2) as usize;
-    if 96 < l {
+    if BLOCK_SIZE < l {
         return false;
     }
-    let past = 3 + l;
-    !octets::is_zero(&r[past..99])
+    let past = HEAD_SIZE + l;
+    !octets::is_zero(&r[past..MESSAGE_SIZE])
 }
 
 // A message, unless its padding is not zero.
 fn read_message(r: &[u8]) -> Input
-    requires { ⌜ 99 ≤ length (now r) ⌝ }
+    requires { ⌜ messageSize ≤ length (now r) ⌝ }
     ensures { λ q. ⌜ q ≡ inputAs kind.Message (now (r .entry)) ⌝ }
 {
     if has_nonzero_padding(r) {

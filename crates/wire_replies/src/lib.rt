@@ -2,55 +2,66 @@
 ghost use mathlib.Core.Path.{_≡_};
 ghost use mathlib.Core.Bool.{true};
 ghost use mathlib.Core.List.{[], _∷_, _++_};
-ghost use Prim.Native.Nat.{_+_, _*_, _≤_};
+ghost use Prim.Native.Nat.{_≤_};
 ghost use lib.ListN.{length};
 ghost use Rattle.ledger.specs.Choice.{pick};
-ghost use Rattle.octets.specs.Runs.{over};
-ghost use Rattle.octets.specs.Blocks.{flat, pad};
+ghost use Rattle.octets.specs.Blocks.{flat};
+ghost use Rattle.octets.specs.Writing.{Wrote, WroteMost};
 ghost use Rattle.paper.specs.Base.{isAmong, toldStates};
-ghost use Rattle.paper.specs.Replies.{addressOf, sapLength, infoFields, infoTail};
+ghost use Rattle.paper.specs.RecordsIn.{messageSize};
 ghost use Rattle.paper.specs.RecordsOut.{order, up, bytesOf, allBytes, flushIf, messageBytes};
+ghost use Rattle.paper.specs.RecordsOut.{startSize, connectSize, acceptSize, disconnectSize};
+ghost use Rattle.paper.specs.Replies.{addressOf, infoFields, infoTail, mostAddress, mostTail};
+ghost use Rattle.wire_replies.specs.Rooms.{Calls, InBlock, Behind, BehindInfo, SapTakes, messageUnder};
+use paper::ACCEPT_SIZE;
+use paper::ADDRESS_SIZE;
 use paper::Correlation;
+use paper::DISCONNECT_SIZE;
+use paper::HEAD_SIZE;
 use paper::LineOrder;
+use paper::MAC_SIZE;
+use paper::MESSAGE_SIZE;
+use paper::MOST_ADDRESS;
 use paper::Reply;
+use paper::START_SIZE;
 use paper::Stream;
 
 // ---- orders to the line, and the flush
 
 // A letter and a stream: how each of these records starts.
 fn put_start(room: &mut [u8], letter: u8, s: u8) -> usize
-    requires { ⌜ 2 ≤ length (now room) ⌝ }
-    ensures { λ n. ⌜ (n ≡ 2) × (now (room .exit) ≡ over (letter ∷ s ∷ []) (now (room .entry))) ⌝ }
+    requires { ⌜ startSize ≤ length (now room) ⌝ }
+    ensures { λ n. ⌜ Wrote (letter ∷ s ∷ []) 0 n (now (room .entry)) (now (room .exit)) ⌝ }
 {
     octets::put_bytes(room, 0, &[letter, s]);
-    2
+    START_SIZE
 }
 
 // a: carrying stream, correlation.
 fn put_accept(room: &mut [u8], s: u8, c: Correlation) -> usize
-    requires { ⌜ 6 ≤ length (now room) ⌝ }
-    ensures { λ n. ⌜ (n ≡ 6) × (now (room .exit) ≡ over (bytesOf (order s (LineOrder.Accept c) [])) (now (room .entry))) ⌝ }
+    requires { ⌜ acceptSize ≤ length (now room) ⌝ }
+    ensures { λ n. ⌜ Wrote (bytesOf (order s (LineOrder.Accept c) [])) 0 n (now (room .entry)) (now (room .exit)) ⌝ }
 {
     let at = put_start(room, b'a', s);
     octets::put_number32(room, at, c.0);
-    6
+    ACCEPT_SIZE
 }
 
 // d: stream, correlation, reason.
 fn put_disconnect(room: &mut [u8], s: u8, c: Correlation, reason: u32) -> usize
-    requires { ⌜ 10 ≤ length (now room) ⌝ }
-    ensures { λ n. ⌜ (n ≡ 10) × (now (room .exit) ≡ over (bytesOf (order s (LineOrder.Disconnect c reason) [])) (now (room .entry))) ⌝ }
+    requires { ⌜ disconnectSize ≤ length (now room) ⌝ }
+    ensures { λ n. ⌜ Wrote (bytesOf (order s (LineOrder.Disconnect c reason) [])) 0 n (now (room .entry)) (now (room .exit)) ⌝ }
 {
     let at = put_start(room, b'd', s);
     octets::put_number32(room, at, c.0);
     octets::put_number32(room, at + 4, reason);
-    10
+    DISCONNECT_SIZE
 }
 
 // An order that carries no address.
 pub fn put_order(room: &mut [u8], s: u8, o: LineOrder) -> usize
-    requires { ⌜ 10 ≤ length (now room) ⌝ }
-    ensures { λ n. ⌜ (n ≡ length (bytesOf (order s o []))) × (n ≤ 10) × (now (room .exit) ≡ over (bytesOf (order s o [])) (now (room .entry))) ⌝ }
+    requires { ⌜ disconnectSize ≤ length (now room) ⌝ }
+    ensures { λ n. ⌜ WroteMost disconnectSize (bytesOf (order s o [])) 0 n (now (room .entry)) (now (room .exit)) ⌝ }
 {
     match o {
         LineOrder::Connect(_) => put_start(room, b'c', s),
@@ -63,8 +74,8 @@ pub fn put_order(room: &mut [u8], s: u8, o: LineOrder) -> usize
 
 // c: stream, called address.
 pub fn put_connect(room: &mut [u8], s: u8, at: u8, called: &[u8]) -> usize
-    requires { ⌜ (length (now called) ≤ 7) × (9 ≤ length (now room)) ⌝ }
-    ensures { λ n. ⌜ (n ≡ length (bytesOf (order s (LineOrder.Connect at) (now (called .entry))))) × (n ≤ 9) × (now (room .exit) ≡ over (bytesOf (order s (LineOrder.Connect at) (now (called .entry)))) (now (room .entry))) ⌝ }
+    requires { ⌜ Calls (now called) (now room) ⌝ }
+    ensures { λ n. ⌜ WroteMost connectSize (bytesOf (order s (LineOrder.Connect at) (now (called .entry)))) 0 n (now (room .entry)) (now (room .exit)) ⌝ }
 {
     let at = put_start(room, b'c', s);
     octets::put_bytes(room, at, called);
@@ -73,8 +84,8 @@ pub fn put_connect(room: &mut [u8], s: u8, at: u8, called: &[u8]) -> usize
 
 // F: stream; nothing where no flush is due.
 pub fn put_flush_if(room: &mut [u8], on: bool, s: u8) -> usize
-    requires { ⌜ 2 ≤ length (now room) ⌝ }
-    ensures { λ n. ⌜ (n ≡ length (allBytes (flushIf on s))) × (n ≤ 2) × (now (room .exit) ≡ over (allBytes (flushIf on s)) (now (room .entry))) ⌝ }
+    requires { ⌜ startSize ≤ length (now room) ⌝ }
+    ensures { λ n. ⌜ WroteMost startSize (allBytes (flushIf on s)) 0 n (now (room .entry)) (now (room .exit)) ⌝ }
 {
     if on {
         return put_start(room, b'F', s);
@@ -86,13 +97,13 @@ pub fn put_flush_if(room: &mut [u8], on: bool, s: u8) -> usize
 
 // P or C: stream, length L, the block of 96 bytes, zero past L.
 fn put_message(room: &mut [u8], letter: u8, s: u8, fields: &[u32], tail: &[u8]) -> usize
-    requires { ⌜ (length (now fields) * 4 + length (now tail) ≤ 96) × (99 ≤ length (now room)) ⌝ }
-    ensures { λ n. ⌜ (n ≡ 99) × (now (room .exit) ≡ over ((letter ∷ s ∷ length (flat (now (fields .entry)) ++ now (tail .entry)) ∷ []) ++ pad (flat (now (fields .entry)) ++ now (tail .entry))) (now (room .entry))) ⌝ }
+    requires { ⌜ InBlock (now fields) (now tail) (now room) ⌝ }
+    ensures { λ n. ⌜ WroteMost messageSize (messageUnder letter s (flat (now (fields .entry)) ++ now (tail .entry))) 0 n (now (room .entry)) (now (room .exit)) ⌝ }
 {
     let size = fields.len() * 4 + tail.len();
     octets::put_bytes(room, 0, &[letter, s, size as u8]);
-    octets::put_bytes(room, 3, &octets::block_with(fields, tail));
-    99
+    octets::put_bytes(room, HEAD_SIZE, &octets::block_with(fields, tail));
+    MESSAGE_SIZE
 }
 
 // The stream's state is one in which INFO_ACK tells its binding.
@@ -105,7 +116,7 @@ fn is_told(q: Stream) -> bool
 
 // 1 byte of SAP or 2 of Ethernet type.
 fn sap_length(sap: u16) -> u32
-    ensures { λ r. ⌜ (r ≡ sapLength sap) × (1 ≤ r) × (r ≤ 2) ⌝ }
+    ensures { λ r. ⌜ SapTakes sap r ⌝ }
 {
     if sap < 256 {
         return 1;
@@ -124,8 +135,8 @@ fn put_info_fields(
     offset: u32,
     tail: &[u8],
 ) -> usize
-    requires { ⌜ (address ≤ 8) × (length (now tail) ≤ 14) × (99 ≤ length (now room)) ⌝ }
-    ensures { λ n. ⌜ (n ≡ 99) × (now (room .exit) ≡ over (messageBytes true s (flat (0x03 ∷ infoFields state address sap mode offset) ++ now (tail .entry))) (now (room .entry))) ⌝ }
+    requires { ⌜ BehindInfo address (now tail) (now room) ⌝ }
+    ensures { λ n. ⌜ WroteMost messageSize (messageBytes true s (flat (0x03 ∷ infoFields state address sap mode offset) ++ now (tail .entry))) 0 n (now (room .entry)) (now (room .exit)) ⌝ }
 {
     let q = octets::wide(state);
     let m = octets::wide(mode);
@@ -157,8 +168,8 @@ fn put_info_fields(
 // Unbound: address length, SAP length and address offset 0, mode 3. Bound: address offset 76, the SAP length is minus 1
 // or minus 2 in two's complement, the bound mode.
 fn put_info(room: &mut [u8], s: u8, q: Stream, tail: &[u8]) -> usize
-    requires { ⌜ (length (now tail) ≤ 14) × (99 ≤ length (now room)) ⌝ }
-    ensures { λ n. ⌜ (n ≡ 99) × (now (room .exit) ≡ over (bytesOf (up s (Reply.InfoAck q) (now (tail .entry)))) (now (room .entry))) ⌝ }
+    requires { ⌜ Behind (now tail) (now room) ⌝ }
+    ensures { λ n. ⌜ WroteMost messageSize (bytesOf (up s (Reply.InfoAck q) (now (tail .entry)))) 0 n (now (room .entry)) (now (room .exit)) ⌝ }
 {
     let state = q.state;
     let number = paper::number_of(state);
@@ -167,15 +178,24 @@ fn put_info(room: &mut [u8], s: u8, q: Stream, tail: &[u8]) -> usize
     }
     let size = sap_length(q.sap);
     let minus = 0xffffffff - size + 1;
-    put_info_fields(room, s, number, 6 + size, minus, q.mode, 76, tail)
+    put_info_fields(
+        room,
+        s,
+        number,
+        MAC_SIZE as u32 + size,
+        minus,
+        q.mode,
+        76,
+        tail,
+    )
 }
 
 // BIND_ACK: SAP, address length and offset, the count granted, no XID or TEST.
 fn put_bound(room: &mut [u8], s: u8, sap: u16, granted: u8, tail: &[u8]) -> usize
-    requires { ⌜ (length (now tail) ≤ 14) × (99 ≤ length (now room)) ⌝ }
-    ensures { λ n. ⌜ (n ≡ 99) × (now (room .exit) ≡ over (bytesOf (up s (Reply.BindAck sap granted) (now (tail .entry)))) (now (room .entry))) ⌝ }
+    requires { ⌜ Behind (now tail) (now room) ⌝ }
+    ensures { λ n. ⌜ WroteMost messageSize (bytesOf (up s (Reply.BindAck sap granted) (now (tail .entry)))) 0 n (now (room .entry)) (now (room .exit)) ⌝ }
 {
-    let address = 6 + sap_length(sap);
+    let address = MAC_SIZE as u32 + sap_length(sap);
     let most = octets::wide(granted);
     put_message(
         room,
@@ -188,8 +208,8 @@ fn put_bound(room: &mut [u8], s: u8, sap: u16, granted: u8, tail: &[u8]) -> usiz
 
 // Codes 0x03 to 0x06 and 0x12 go up as C, the others as P. The originator is always 0x0701.
 pub fn put_up(room: &mut [u8], s: u8, reply: Reply, tail: &[u8]) -> usize
-    requires { ⌜ (length (now tail) ≤ 14) × (99 ≤ length (now room)) ⌝ }
-    ensures { λ n. ⌜ (n ≡ 99) × (now (room .exit) ≡ over (bytesOf (up s reply (now (tail .entry)))) (now (room .entry))) ⌝ }
+    requires { ⌜ Behind (now tail) (now room) ⌝ }
+    ensures { λ n. ⌜ WroteMost messageSize (bytesOf (up s reply (now (tail .entry)))) 0 n (now (room .entry)) (now (room .exit)) ⌝ }
 {
     match reply {
         Reply::InfoAck(q) => put_info(room, s, q, tail),
@@ -212,23 +232,23 @@ pub fn put_up(room: &mut [u8], s: u8, reply: Reply, tail: &[u8]) -> usize
 // ---- addresses, which stand behind the fields of a message up
 
 // An address is the MAC, then 1 byte of SAP or 2 of Ethernet type.
-pub fn put_address(room: &mut [u8], mac: [u8; 6], sap: u16) -> usize
-    requires { ⌜ 8 ≤ length (now room) ⌝ }
-    ensures { λ n. ⌜ (n ≡ length (addressOf mac sap)) × (n ≤ 8) × (now (room .exit) ≡ over (addressOf mac sap) (now (room .entry))) ⌝ }
+pub fn put_address(room: &mut [u8], mac: [u8; MAC_SIZE], sap: u16) -> usize
+    requires { ⌜ mostAddress ≤ length (now room) ⌝ }
+    ensures { λ n. ⌜ WroteMost mostAddress (addressOf mac sap) 0 n (now (room .entry)) (now (room .exit)) ⌝ }
 {
     octets::put_bytes(room, 0, &mac);
     if sap < 256 {
-        octets::put_bytes(room, 6, &[sap as u8]);
-        return 7;
+        octets::put_bytes(room, MAC_SIZE, &[sap as u8]);
+        return ADDRESS_SIZE;
     }
-    octets::put_number16(room, 6, sap);
-    8
+    octets::put_number16(room, MAC_SIZE, sap);
+    MOST_ADDRESS
 }
 
 // The address of a stream, if it is bound.
-fn put_bound_address(room: &mut [u8], q: Stream, mac: [u8; 6]) -> usize
-    requires { ⌜ 8 ≤ length (now room) ⌝ }
-    ensures { λ n. ⌜ (n ≡ length (pick (isAmong toldStates q) (addressOf mac (q .sap)) [])) × (n ≤ 8) × (now (room .exit) ≡ over (pick (isAmong toldStates q) (addressOf mac (q .sap)) []) (now (room .entry))) ⌝ }
+fn put_bound_address(room: &mut [u8], q: Stream, mac: [u8; MAC_SIZE]) -> usize
+    requires { ⌜ mostAddress ≤ length (now room) ⌝ }
+    ensures { λ n. ⌜ WroteMost mostAddress (pick (isAmong toldStates q) (addressOf mac (q .sap)) []) 0 n (now (room .entry)) (now (room .exit)) ⌝ }
 {
     if is_told(q) {
         return put_address(room, mac, q.sap);
@@ -237,11 +257,11 @@ fn put_bound_address(room: &mut [u8], q: Stream, mac: [u8; 6]) -> usize
 }
 
 // What stands behind INFO_ACK's fields: the address if bound, then six bytes of 0xff.
-pub fn put_info_tail(room: &mut [u8], q: Stream, mac: [u8; 6]) -> usize
-    requires { ⌜ 14 ≤ length (now room) ⌝ }
-    ensures { λ n. ⌜ (n ≡ length (infoTail mac q)) × (n ≤ 14) × (now (room .exit) ≡ over (infoTail mac q) (now (room .entry))) ⌝ }
+pub fn put_info_tail(room: &mut [u8], q: Stream, mac: [u8; MAC_SIZE]) -> usize
+    requires { ⌜ mostTail ≤ length (now room) ⌝ }
+    ensures { λ n. ⌜ WroteMost mostTail (infoTail mac q) 0 n (now (room .entry)) (now (room .exit)) ⌝ }
 {
     let size = put_bound_address(room, q, mac);
-    octets::put_bytes(room, size, &[0xff, 0xff, 0xff, 0xff, 0xff, 0xff]);
-    size + 6
+    octets::put_bytes(room, size, &[0xff; MAC_SIZE]);
+    size + MAC_SIZE
 }

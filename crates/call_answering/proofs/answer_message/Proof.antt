@@ -24,8 +24,9 @@ returns c =
     record {
       comes =
           wrong t i m _ _ _ effect
-          ∙ ap₂ (λ (n : ℕ) (q : Asked). comes stateRows t i m (sends n q)) (read .before .code-in .ensures) (sym (told .asked .given .1) ∙ read .asked-by .ensures);
-      fits = (a .pre .0, no-place _ _ effect refl);
+          ∙ ap₂ (λ (n : ℕ) (q : Asked). comes stateRows t i m (sends n q)) (read .before .code-in .ensures)
+          (sym (told .asked .given .1) ∙ read .asked-by .ensures);
+      fits = record { within = a .pre .at .within; place = no-place _ _ effect refl };
     }
 
 returns-2 : tie.Need-returns-2
@@ -40,7 +41,8 @@ returns-2 c =
     record {
       comes =
           answered .comes
-          ∙ ap₂ (λ (n : ℕ) (q : Asked). comes stateRows t i m (sends n q)) (read .before .code-in .ensures) (sym (told .asked2 .given .1) ∙ read .asked-by .ensures);
+          ∙ ap₂ (λ (n : ℕ) (q : Asked). comes stateRows t i m (sends n q)) (read .before .code-in .ensures)
+          (sym (told .asked2 .given .1) ∙ read .asked-by .ensures);
       fits = answered .fits;
     }
 

@@ -18,7 +18,7 @@ returns c =
       comes =
           no-row (tableOf (now (a .args .img))) (a .args .i) m (a .args .code) (a .args .q) _ _ (stood .load-stream .ensures)
           (found .request-row .ensures) _ (c .before .enum-told .given .1) effect;
-      fits = (a .pre .0, no-place _ _ effect refl);
+      fits = record { within = a .pre .within; place = no-place _ _ effect refl };
     }
 
 returns-2 : tie.Need-returns-2
@@ -32,7 +32,7 @@ returns-2 c =
       comes =
           by-row (tableOf (now (a .args .img))) (a .args .i) m (a .args .code) (a .args .q) _ _ (stood .load-stream .ensures)
           (found .request-row .ensures) _ _ _ (told .found .given .1) (c .before .judged-request .ensures) effect;
-      fits = (a .pre .0, no-place _ _ effect (message-takes _ _ _ _ _));
+      fits = record { within = a .pre .within; place = no-place _ _ effect (message-takes _ _ _ _ _) };
     }
 
 pub answer-request-spec : {M : Type 1} → statement M

@@ -1,3 +1,4 @@
+-- The rules of step 6 are told what the table says of its number, its count and its token.
 use Rattle.paper.specs.Sight.{answerTo}
 use Rattle.paper.specs.ErrorOrder.{judgeRequest}
 use borrow.Author.Needs.{needs}
@@ -6,7 +7,17 @@ use Rattle.call_answering.proofs.judged_accept.Tie as tie
 
 returns : tie.Need-returns
 unfolding judgeRequest answerTo
-returns c = λ x. (rw (c .before .judge-accept .ensures, c .before .before .carrier-of .ensures, c .before .before .before .count-at .ensures, c .before .before .before .before .is-waiting .ensures, c .before .before .before .before .before .before .before .before .pre .3), rw (c .carrier-at .ensures, c .before .before .carrier-of .ensures))
+returns c =
+    let named = c .before .before in
+    let counted = named .before in
+    let found = counted .before in
+    let lent = found .before .before .before .before in
+    λ x. record {
+      verdict =
+          rw (c .before .judge-accept .ensures, named .carrier-of .ensures, counted .count-at .ensures)
+          (rw (found .is-waiting .ensures, lent .pre .loaded));
+      carrier = rw (c .carrier-at .ensures, named .carrier-of .ensures);
+    }
 
 pub judged-accept-spec : {M : Type 1} → statement M
 judged-accept-spec =

@@ -1,3 +1,4 @@
+-- The rules of step 7 are told whether its number is open.
 use Rattle.paper.specs.Sight.{answerTo}
 use Rattle.paper.specs.ErrorOrder.{judgeRequest}
 use borrow.Author.Needs.{needs}
@@ -6,7 +7,13 @@ use Rattle.call_answering.proofs.judged_disconnect.Tie as tie
 
 returns : tie.Need-returns
 unfolding judgeRequest answerTo
-returns c = λ x. (rw (c .alone .ensures, c .before .judge-disconnect .ensures, c .before .before .is-waiting .ensures, c .before .before .before .before .before .pre .3), rw (c .alone .ensures))
+returns c =
+    let found = c .before .before in
+    let lent = found .before .before .before in
+    λ x. record {
+      verdict = rw (c .alone .ensures, c .before .judge-disconnect .ensures, found .is-waiting .ensures, lent .pre .loaded);
+      carrier = rw (c .alone .ensures);
+    }
 
 pub judged-disconnect-spec : {M : Type 1} → statement M
 judged-disconnect-spec =

@@ -1,4 +1,4 @@
--- `call_enacting::behind` meets its contract: each of the two messages has its part of the record, and the others keep the stream's own.
+-- Each of the two messages has its part of the record, and the others keep the stream's own.
 use denote.Ref.{now}
 use Rattle.call_enacting.specs.Behind.{behindBy}
 use Rattle.call_enacting.proofs.Laws.{not-event}

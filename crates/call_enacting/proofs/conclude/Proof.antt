@@ -12,14 +12,15 @@ enact-requires : tie.Need-enact-requires
 enact-requires c κs =
     let told = c .before .before .before in
     let a = told .before .before .before .before .before in
-    (a .pre .0, a .pre .1, a .pre .2, subst (Enactable (tableOf (now (a .args .img)))) (told .d2 .given .1) (a .pre .3))
+    record { call = a .pre .call; fits = subst (Enactable (tableOf (now (a .args .img)))) (told .d2 .given .1) (a .pre .fits) }
 
 returns : tie.Need-returns
 returns c =
     let told = c .before .before in
     let a = told .before .before .before .before .before in
     let img = now (a .args .img) in
-    rw (told .d .given .1) (leaves-refused img (now (a .args .room)) (tableOf img) _ _ (subst (Enactable (tableOf img)) (told .d .given .1) (a .pre .3)) (c .refusing .ensures))
+    let numbered = subst (Enactable (tableOf img)) (told .d .given .1) (a .pre .fits) in
+    rw (told .d .given .1) (leaves-refused img (now (a .args .room)) (tableOf img) _ _ numbered (c .refusing .ensures))
 
 returns-2 : tie.Need-returns-2
 returns-2 c =

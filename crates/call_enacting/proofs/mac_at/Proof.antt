@@ -1,3 +1,4 @@
+-- The PPA that the stream is attached to has the MAC.
 use borrow.Author.Needs.{needs}
 use Rattle.call_enacting.proofs.mac_at.Statement.{statement}
 use Rattle.call_enacting.proofs.mac_at.Tie as tie

@@ -1,3 +1,4 @@
+-- No order writes nothing, and one is written as it is named.
 use native.Mathlib.Omega.{arith}
 use mathlib.Core.Path.{refl}
 use Rattle.paper.specs.Effects.{ordersIn}
@@ -7,7 +8,7 @@ use Rattle.call_enacting.proofs.put_orders.Tie as tie
 
 returns : tie.Need-returns
 unfolding ordersIn
-returns c = rw (c .enum-told .given .1) (omega arith, λ own. (refl, refl))
+returns c = rw (c .enum-told .given .1) (record { few = omega arith; each = λ own. record { ends = refl; stands = refl } })
 
 returns-2 : tie.Need-returns-2
 unfolding ordersIn

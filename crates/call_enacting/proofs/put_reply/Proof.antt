@@ -1,11 +1,11 @@
--- `call_enacting::put_reply` meets its contract: what the message up ends in is what stands behind its fields, which is at most 14 bytes.
+-- What the message up ends in is what stands behind its fields, which is never more than the addresses of CONNECT_IND.
 use Prim.Native.Nat.{ℕ, _-_}
 use native.Mathlib.Omega.{arith}
 use mathlib.Core.Path.{_≡_, ap, _∙_}
 use mathlib.Core.List.{List}
-use lib.ListN.{length, replicate}
+use lib.ListN.{replicate}
 use denote.Ref.{now}
-use Rattle.octets.specs.Runs.{part, over}
+use Rattle.octets.specs.Runs.{part}
 use Rattle.octets.proofs.Runs.{over-begins}
 use Rattle.paper.specs.Base.{macAt}
 use Rattle.paper.specs.RecordsOut.{up, bytesOf}
@@ -18,31 +18,37 @@ use Rattle.call_enacting.specs.Behind.{ownBehind, behindBy}
 use Rattle.call_enacting.proofs.Laws.{behind-reply}
 use borrow.Author.Needs.{needs}
 use Rattle.call_enacting.proofs.put_reply.Statement.{statement}
+use Rattle.octets.specs.Writing.{WroteMost}
+use Rattle.paper.specs.Replies.{mostTail}
+use Rattle.octets.proofs.Writing.{wrote-same, wrote-of, wrote-over}
 use Rattle.call_enacting.proofs.put_reply.Tie as tie
 
--- n bytes of x, which begins with the stream's own address, or addresses of the event's record
-ends : (mac m l : List ℕ) (r : Reply) {n : ℕ} {x y : List ℕ} → n ≡ length (ownBehind mac r) → x ≡ over (ownBehind mac r) l
+-- what is handed on: the first n bytes of x, which begins with the stream's own address, or addresses of the event's record
+handed : (mac m l : List ℕ) (r : Reply) {n : ℕ} {x y : List ℕ} → WroteMost mostTail (ownBehind mac r) 0 n l x
     → y ≡ behindBy (part x 0 (n - 0)) m r → y ≡ behindReply mac m r
-ends mac m l r {n} en ex ey =
-    ey ∙ ap (λ (own : List ℕ). behindBy own m r) (over-begins (ownBehind mac r) l (n - 0) ex (omega arith)) ∙ behind-reply mac m r
+handed mac m l r {n} w e =
+    e ∙ ap (λ (own : List ℕ). behindBy own m r) (over-begins (ownBehind mac r) l (n - 0) (wrote-over (ownBehind mac r) (wrote-of w)) (omega (arith, w .ends))) ∙ behind-reply mac m r
 
 put-up-requires : tie.Need-put-up-requires
 put-up-requires c κs =
-    let a = c .before .before .before .before .before .before .before .before .before .before in
+    let at-put-own-address = c .before .before .before .before .before in
+    let a = at-put-own-address .before .before .before .before .before in
     let mac = macAt (tableOf (now (a .args .img))) (a .args .i) in
     let m = now (a .args .m) in
-    let own = c .before .before .before .before .before .put-own-address .ensures in
-    let tail = ends mac m (replicate 14 0) (a .args .reply) (own .0) (own .2) (c .before .behind .ensures) in
-    (rw tail (tail-most mac (mac-length _ (a .pre .2 .shaped) _) m (a .args .reply)), search needs)
+    let own = at-put-own-address .put-own-address .ensures in
+    let tail = handed mac m (replicate mostTail 0) (a .args .reply) own (c .before .behind .ensures) in
+    record { short = rw tail (tail-most mac (mac-length _ (a .pre .at .lent .shaped) _) m (a .args .reply)); roomy = search needs }
 
 returns : tie.Need-returns
 returns c =
-    let a = c .before .before .before .before .before .before .before .before .before .before .before .before .before .args in
+    let at-put-up = c .before .before in
+    let at-behind = at-put-up .before .before in
+    let at-put-own-address = at-behind .before .before .before .before in
+    let a = at-put-own-address .before .before .before .before .before .args in
     let mac = macAt (tableOf (now (a .img))) (a .i) in
-    let own = c .before .before .before .before .before .before .before .before .put-own-address .ensures in
-    let tail = ends mac (now (a .m)) (replicate 14 0) (a .reply) (own .0) (own .2) (c .before .before .before .before .behind .ensures) in
-    let w = c .before .before .put-up .ensures in
-    (w .0, w .1 ∙ ap (λ (l : List ℕ). over (bytesOf (up (a .i) (a .reply) l)) (now (a .room))) tail)
+    let own = at-put-own-address .put-own-address .ensures in
+    let tail = handed mac (now (a .m)) (replicate mostTail 0) (a .reply) own (at-behind .behind .ensures) in
+    wrote-same (ap (λ (l : List ℕ). bytesOf (up (a .i) (a .reply) l)) tail) (at-put-up .put-up .ensures)
 
 pub put-reply-spec : {M : Type 1} → statement M
 put-reply-spec =

@@ -1,10 +1,10 @@
+-- Refusals 10 and 1 in the definition's order; then the record is served.
 use native.Mathlib.Omega.{arith}
 use mathlib.Core.Path.{sym, ap, _∙_}
 use mathlib.Core.Bool.{not}
 use denote.Ref.{now}
 use borrow.Author.Tests.{lt-ltb, le-ltb}
 use Rattle.table_image.specs.Layout.{tableOf}
-use Rattle.table_image.proofs.Lending.{lent-length, sound-lent}
 use Rattle.call_outcomes.proofs.Laws.{leaves-refused, where-true, where-false}
 use Rattle.call_outcomes.specs.Leaving.{left, leaving}
 use Rattle.paper.specs.StateRows.{stateRows}
@@ -17,38 +17,55 @@ use Rattle.call_engine.proofs.call_sound.Tie as tie
 
 returns : tie.Need-returns
 returns c =
-    let a = c .before .before .before .before .before .before .before in
+    let at-if1 = c .before in
+    let at-is-readable = at-if1 .before in
+    let at-input-of = at-is-readable .before in
+    let a = at-input-of .before .before .before .before in
     let img = now (a .args .img) in
     let room = now (a .args .room) in
-    where-true img room _ _ (ap not (sym (c .before .before .is-readable .ensures ∙ ap isReadable (c .before .before .before .input-of .ensures))) ∙ c .before .if1 .taken)
+    where-true img room _ _ (ap not (sym (at-is-readable .is-readable .ensures ∙ ap isReadable (at-input-of .input-of .ensures))) ∙ at-if1 .if1 .taken)
     (leaves-refused img room (tableOf img) 10 _ (omega arith) (c .refusing .ensures))
     ∙ call-on img (now (a .args .r)) room (a .pre)
 
 returns-2 : tie.Need-returns-2
 returns-2 c =
-    let a = c .before .before .before .before .before .before .before .before in
+    let at-if2 = c .before in
+    let at-if1 = at-if2 .before in
+    let at-is-readable = at-if1 .before in
+    let at-input-of = at-is-readable .before in
+    let a = at-input-of .before .before .before .before in
     let img = now (a .args .img) in
     let room = now (a .args .room) in
-    where-false img room _ _ (ap not (sym (c .before .before .before .is-readable .ensures ∙ ap isReadable (c .before .before .before .before .input-of .ensures))) ∙ c .before .before .if1 .left)
-    (where-true img room _ _ (lt-ltb _ _ (c .before .if2 .taken))
+    where-false img room _ _ (ap not (sym (at-is-readable .is-readable .ensures ∙ ap isReadable (at-input-of .input-of .ensures))) ∙ at-if1 .if1 .left)
+    (where-true img room _ _ (lt-ltb _ _ (at-if2 .if2 .taken))
     (leaves-refused img room (tableOf img) 1 _ (omega arith) (c .refusing2 .ensures)))
     ∙ call-on img (now (a .args .r)) room (a .pre)
 
 serve-requires : tie.Need-serve-requires
 serve-requires c κs =
-    let a = c .before .before .before .before .before .before .before .before .before in
-    let img = now (a .args .img) in
-    (lent-length img (sound-lent img (a .pre)), a .pre, c .before .before .if2 .left, sym (c .before .before .before .before .before .input-of .ensures))
+    let at-if2 = c .before .before in
+    let at-input-of = at-if2 .before .before .before in
+    let a = at-input-of .before .before .before .before in
+    record {
+      isSound = a .pre;
+      read = sym (at-input-of .input-of .ensures);
+      roomy = at-if2 .if2 .left;
+    }
 
 returns-3 : tie.Need-returns-3
 returns-3 c =
-    let a = c .before .before .before .before .before .before .before .before .before .before .before .before .before .before in
+    let at-serve = c .before .before .before .before in
+    let at-if2 = at-serve .before .before .before in
+    let at-if1 = at-if2 .before in
+    let at-is-readable = at-if1 .before in
+    let at-input-of = at-is-readable .before in
+    let a = at-input-of .before .before .before .before in
     let img = now (a .args .img) in
     let room = now (a .args .room) in
     let r = now (a .args .r) in
-    where-false img room _ _ (ap not (sym (c .before .before .before .before .before .before .before .before .before .is-readable .ensures ∙ ap isReadable (c .before .before .before .before .before .before .before .before .before .before .input-of .ensures))) ∙ c .before .before .before .before .before .before .before .before .if1 .left)
-    (where-false img room _ _ (le-ltb _ _ (c .before .before .before .before .before .before .before .if2 .left)) (c .before .before .before .before .serve .ensures
-    ∙ ap (λ (q : Input). leaving img room (serveBy stateRows (tableOf img) r q)) (c .before .before .before .before .before .before .before .before .before .before .input-of .ensures)))
+    where-false img room _ _ (ap not (sym (at-is-readable .is-readable .ensures ∙ ap isReadable (at-input-of .input-of .ensures))) ∙ at-if1 .if1 .left)
+    (where-false img room _ _ (le-ltb _ _ (at-if2 .if2 .left)) (at-serve .serve .ensures
+    ∙ ap (λ (q : Input). leaving img room (serveBy stateRows (tableOf img) r q)) (at-input-of .input-of .ensures)))
     ∙ call-on img r room (a .pre)
 
 pub call-sound-spec : {M : Type 1} → statement M

@@ -17,13 +17,20 @@ message-to-requires : tie.Need-message-to-requires
 message-to-requires c κs =
     let told = c .before in
     let a = told .before .before .before .before .before in
-    (a .pre .0, sound-lent (now (a .args .img)) (a .pre .1), read-size _ _ _ _ _ (told .q .given .1) (a .pre .2) (a .pre .4))
+    record {
+      lent = sound-lent (now (a .args .img)) (a .pre .isSound);
+      size = read-size _ _ _ _ _ (told .q .given .1) (a .pre .read) (a .pre .bytes);
+    }
 
 occur-requires : tie.Need-occur-requires
 occur-requires c κs =
     let a = c .before .before .before .before in
     let img = now (a .args .img) in
-    (a .pre .0, sound-lent img (a .pre .1), image-grants-few img (a .pre .1), from-line (a .args .q) (a .pre .3) (c .match .keys2))
+    record {
+      lent = sound-lent img (a .pre .isSound);
+      granted = image-grants-few img (a .pre .isSound);
+      line = from-line (a .args .q) (a .pre .comes) (c .match .keys2);
+    }
 
 returns : tie.Need-returns
 returns c =
@@ -31,7 +38,7 @@ returns c =
     let a = told .before .before .before .before .before in
     let decided = c .message-to .ensures in
     record {
-      comes = decided .comes ∙ any-message (tableOf (now (a .args .img))) _ _ _ _ _ (told .q .given .1) (a .pre .4);
+      comes = decided .comes ∙ any-message (tableOf (now (a .args .img))) _ _ _ _ _ (told .q .given .1) (a .pre .bytes);
       fits = decided .fits;
     }
 
@@ -41,7 +48,7 @@ returns-2 c =
     let a = kept .before .before .before .before in
     let t = tableOf (now (a .args .img)) in
     subst (λ (m : List ℕ). Rightly t m (c .occur .result) (serveBy stateRows t (now (a .args .r)) (a .args .q)))
-    (sym (a .pre .4 .event (from-line (a .args .q) (a .pre .3) (kept .match .keys2))))
+    (sym (a .pre .bytes .event (from-line (a .args .q) (a .pre .comes) (kept .match .keys2))))
     (c .occur .ensures)
 
 pub decide-coming-spec : {M : Type 1} → statement M

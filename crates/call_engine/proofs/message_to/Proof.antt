@@ -37,9 +37,12 @@ answer-message-requires c κs =
     let short = c .before in
     let stood = short .before in
     let a = stood .before .before .before .before in
-    let within = open-within (tableOf (now (a .args .img))) (a .pre .1 .shaped) (a .args .i) (sym (stood .before .is-open .ensures) ∙ not-false _ (stood .if1 .left)) in
-    let size = a .pre .2 (short .if2 .left) in
-    (within, a .pre .0, a .pre .1, omega (arith, size, c .if3 .left), omega (arith, size, short .if2 .left))
+    let opened = sym (stood .before .is-open .ensures) ∙ not-false _ (stood .if1 .left) in
+    let size = a .pre .size (short .if2 .left) in
+    record {
+      at = record { within = open-within (tableOf (now (a .args .img))) (a .pre .lent .shaped) (a .args .i) opened; lent = a .pre .lent };
+      whole = record { coded = omega (arith, size, c .if3 .left); short = omega (arith, size, short .if2 .left) };
+    }
 
 returns-4 : tie.Need-returns-4
 unfolding ofOpen message _⇒_∣_

@@ -14,36 +14,49 @@ use borrow.Author.Needs.{needs}
 use Rattle.call_engine.proofs.serve.Statement.{statement}
 use Rattle.call_engine.proofs.serve.Tie as tie
 use Rattle.octets.proofs.Runs.{part-length}
+use Rattle.paper.specs.Base.{macSize}
 
 add-ppa-requires : tie.Need-add-ppa-requires
 add-ppa-requires c κs =
     let told = c .before .before .before in
     let a = told .before .before .before .before .before in
     let r = now (a .args .r) in
-    (a .pre .0, sound-lent (now (a .args .img)) (a .pre .1), rw (c .part-at .ensures) (part-length r 5 6 (adds-long r _ (a .pre .3 ∙ told .q .given .1))))
+    record {
+      lent = sound-lent (now (a .args .img)) (a .pre .isSound);
+      six = rw (c .part-at .ensures) (part-length r 5 macSize (adds-long r _ (a .pre .read ∙ told .q .given .1)));
+    }
 
 open-stream-requires : tie.Need-open-stream-requires
 open-stream-requires c κs =
     let a = c .before .before .before .before .before .before in
     let img = now (a .args .img) in
-    (a .pre .0, sound-lent img (a .pre .1), shut (tableOf img) (parts img (a .pre .1) .1))
+    record { lent = sound-lent img (a .pre .isSound); shut = shut (tableOf img) (parts img (a .pre .isSound) .1) }
 
 close-stream-requires : tie.Need-close-stream-requires
 close-stream-requires c κs =
     let told = c .before .before .before in
     let a = told .before .before .before .before .before in
-    (a .pre .0, sound-lent (now (a .args .img)) (a .pre .1), a .pre .2)
+    record { lent = sound-lent (now (a .args .img)) (a .pre .isSound); roomy = a .pre .roomy }
 
 decide-coming-requires : tie.Need-decide-coming-requires
 decide-coming-requires c κs =
     let a = c .before .before .before .before .before .before in
-    (a .pre .0, a .pre .1, a .pre .3, to-stream (a .args .q) (c .before .before .match .keys4), c .before .read-of .ensures)
+    record {
+      isSound = a .pre .isSound;
+      read = a .pre .read;
+      comes = to-stream (a .args .q) (c .before .before .match .keys4);
+      bytes = c .before .read-of .ensures;
+    }
 
 conclude-requires : tie.Need-conclude-requires
 conclude-requires c κs =
     let decided = c .before .before in
-    let a = decided .before .before .before .before .before .before .before in
-    (a .pre .0, sound-lent (now (a .args .img)) (a .pre .1), a .pre .2, decided .decide-coming .ensures .fits)
+    let read = decided .before in
+    let a = read .before .before .before .before .before .before in
+    record {
+      call = record { lent = sound-lent (now (a .args .img)) (a .pre .isSound); roomy = a .pre .roomy };
+      fits = decided .decide-coming .ensures .fits;
+    }
 
 returns : tie.Need-returns
 returns c =
@@ -70,7 +83,8 @@ returns-4 : tie.Need-returns-4
 returns-4 c =
     let concluded = c .before .before .before .before in
     let decided = concluded .before .before .before in
-    let a = decided .before .before .before .before .before .before .before in
+    let read = decided .before in
+    let a = read .before .before .before .before .before .before in
     concluded .conclude .ensures ∙ ap (leaving (now (a .args .img)) (now (a .args .room))) (decided .decide-coming .ensures .comes)
 
 pub serve-spec : {M : Type 1} → statement M

@@ -16,6 +16,7 @@ use Rattle.paper.specs.declared.Event.the-variants as event
 use Rattle.table_image.specs.Layout.{tableOf}
 use borrow.Author.Needs.{needs}
 use Rattle.call_events.proofs.arrives.Statement.{statement}
+use Rattle.paper.specs.Base.{streamTotal}
 use Rattle.call_events.proofs.arrives.Tie as tie
 
 returns : tie.Need-returns
@@ -39,13 +40,13 @@ returns-3 c =
     let called = heard .before .before in
     let known = called .before .before in
     let a = known .before .before .before .before in
-    let e = heard .listener .ensures ∙ ap (listener (tableOf (now (a .args .img))) (a .args .p)) (heard .before .wide .ensures .0) in
+    let e = heard .listener .ensures ∙ ap (listener (tableOf (now (a .args .img))) (a .args .p)) (heard .before .wide .ensures .is) in
     record {
       comes =
           rw (
             ap not (sym (known .before .knows .ensures)) ∙ known .if1 .left,
             ap not (sym (called .before .is-called .ensures)) ∙ called .if2 .left,
-            ap (λ (j : ℕ). not (ltb j 16)) (sym e) ∙ ap not (le-ltb _ _ (c .if3 .taken)),
+            ap (λ (j : ℕ). not (ltb j streamTotal)) (sym e) ∙ ap not (le-ltb _ _ (c .if3 .taken)),
           );
       fits = omega arith;
     }
@@ -59,16 +60,16 @@ returns-4 c =
     let known = called .before .before in
     let a = known .before .before .before .before in
     let t = tableOf (now (a .args .img)) in
-    let e = heard .listener .ensures ∙ ap (listener t (a .args .p)) (heard .before .wide .ensures .0) in
+    let e = heard .listener .ensures ∙ ap (listener t (a .args .p)) (heard .before .wide .ensures .is) in
     record {
       comes =
           ap₂ (λ (j n : ℕ). comes stateRows t j (now (a .args .r)) (brings busy (event.Arrives (record { 0 = n })))) e (c .next-number .ensures)
           ∙ rw (
             ap not (sym (known .before .knows .ensures)) ∙ known .if1 .left,
             ap not (sym (called .before .is-called .ensures)) ∙ called .if2 .left,
-            ap (λ (j : ℕ). not (ltb j 16)) (sym e) ∙ ap not (lt-ltb _ _ (listened .if3 .left)),
+            ap (λ (j : ℕ). not (ltb j streamTotal)) (sym e) ∙ ap not (lt-ltb _ _ (listened .if3 .left)),
           );
-      fits = (omega (arith, listened .if3 .left), omega arith);
+      fits = record { within = omega (arith, listened .if3 .left); numbered = omega arith };
     }
 
 pub arrives-spec : {M : Type 1} → statement M

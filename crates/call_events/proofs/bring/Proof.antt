@@ -28,7 +28,7 @@ returns-6 c = rw (c .before .before .q6 .given .1) (c .named5 .ensures _)
 returns-7 : tie.Need-returns-7
 returns-7 c =
     let a = c .before .before .before in
-    record { comes = not-read (tableOf (now (a .args .img))) (now (a .args .r)) (a .args .q) (c .match .keys7) (a .pre .2); fits = omega arith }
+    record { comes = not-read (tableOf (now (a .args .img))) (now (a .args .r)) (a .args .q) (c .match .keys7) (a .pre .line); fits = omega arith }
 
 pub bring-spec : {M : Type 1} → statement M
 bring-spec =

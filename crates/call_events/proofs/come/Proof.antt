@@ -11,7 +11,7 @@ returns c =
     let found = c .before .before in
     let a = found .before .before .before in
     let t = tableOf (now (a .args .img)) in
-    λ r. record { comes = no-row t (a .args .i) r (a .args .refusal) (a .args .event) _ (found .row-of .ensures) (c .enum-told .given .1); fits = a .pre .3 }
+    λ r. record { comes = no-row t (a .args .i) r (a .args .refusal) (a .args .event) _ (found .row-of .ensures) (c .enum-told .given .1); fits = a .pre .numbered }
 
 returns-2 : tie.Need-returns-2
 returns-2 c =
@@ -25,7 +25,10 @@ returns-2 c =
     let effect = c .event-effect .ensures in
     λ r. record {
       comes = by-row t i r (a .args .refusal) (a .args .event) _ row _ _ _ (told .found .given .1) (stood .load-stream .ensures) effect;
-      fits = (a .pre .0, place t i (a .args .event) _ _ _ _ row (told .found .given .1) effect (a .pre .4));
+      fits = record {
+        within = a .pre .at .within;
+        place = place t i (a .args .event) _ _ _ _ row (told .found .given .1) effect (a .pre .granted);
+      };
     }
 
 pub come-spec : {M : Type 1} → statement M

@@ -1,3 +1,4 @@
+-- The called MAC comes first in the record: the first bytes of the called address are those that are compared.
 use Prim.Native.Nat.{ℕ}
 use native.Mathlib.Omega.{arith}
 use mathlib.Core.Path.{sym, ap₂, _∙_}
@@ -8,12 +9,16 @@ use lib.Seq.{take-take}
 use Rattle.octets.specs.Runs.{sameBytes}
 use borrow.Author.Needs.{needs}
 use Rattle.call_events.proofs.is_called.Statement.{statement}
+use Rattle.paper.specs.Base.{macSize, addressSize}
 use Rattle.call_events.proofs.is_called.Tie as tie
 
 returns : tie.Need-returns
 returns c =
-    let a = c .before .before .before .before .before .before in
-    c .same-bytes .ensures ∙ ap₂ (λ (l k : List ℕ). sameBytes l k) (c .before .before .part-at .ensures ∙ sym (take-take 6 7 (drop 5 (now (a .args .r))) (omega arith))) (c .before .before .before .mac-of .ensures)
+    let called = c .before .before in
+    let a = called .before .before .before .before in
+    c .same-bytes .ensures
+    ∙ ap₂ (λ (l k : List ℕ). sameBytes l k) (called .part-at .ensures ∙ sym (take-take macSize addressSize (drop 5 (now (a .args .r))) (omega arith)))
+    (called .before .mac-of .ensures)
 
 pub is-called-spec : {M : Type 1} → statement M
 is-called-spec =

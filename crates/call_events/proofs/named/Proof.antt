@@ -21,8 +21,8 @@ unfolding ofOpen _⇒_∣_
 returns-2 c =
     let a = c .before .before .before in
     let found = c .before .is-open .ensures in
-    let within = open-within (tableOf (now (a .args .img))) (a .pre .1 .shaped) (a .args .i) (sym found ∙ not-false _ (c .if1 .left)) in
-    λ r. record { comes = rw (ap not (sym found) ∙ c .if1 .left); fits = (within, omega arith) }
+    let within = open-within (tableOf (now (a .args .img))) (a .pre .shaped) (a .args .i) (sym found ∙ not-false _ (c .if1 .left)) in
+    λ r. record { comes = rw (ap not (sym found) ∙ c .if1 .left); fits = record { within = within; numbered = omega arith } }
 
 pub named-spec : {M : Type 1} → statement M
 named-spec = tie.close (tie.spec (λ c κs. search needs) returns returns-2)

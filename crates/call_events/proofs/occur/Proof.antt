@@ -12,7 +12,11 @@ come-requires c κs =
     let met = c .before .before .before in
     let a = met .before .before .before in
     let fits = subst Bringable (c .before .b2 .given .1) (met .bring .ensures .fits) in
-    (fits .0, a .pre .0, a .pre .1, fits .1, a .pre .2 _)
+    record {
+      at = record { within = fits .within; lent = a .pre .lent };
+      numbered = fits .numbered;
+      granted = a .pre .granted _;
+    }
 
 returns : tie.Need-returns
 returns c =

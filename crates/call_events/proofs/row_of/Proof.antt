@@ -1,3 +1,4 @@
+-- Where the event is not due there is no row, and else the row is that of the state.
 use mathlib.Core.Path.{sym, _∙_}
 use borrow.Author.Tests.{not-true, not-false}
 use Rattle.ledger.specs.Choice.{_⇒_∣_}
@@ -14,7 +15,7 @@ unfolding _⇒_∣_
 returns-2 c =
     let tested = c .before in
     let begun = tested .before .before .before in
-    rw (sym (tested .before .is-due .ensures) ∙ not-false _ (tested .if1 .left), sym (begun .pre .3)) (c .event-row .ensures)
+    rw (sym (tested .before .is-due .ensures) ∙ not-false _ (tested .if1 .left), sym (begun .pre .loaded)) (c .event-row .ensures)
 
 pub row-of-spec : {M : Type 1} → statement M
 row-of-spec = tie.close (tie.spec (λ c κs. search needs) returns (λ c κs. search needs) returns-2)

@@ -1,4 +1,4 @@
--- `call_openings::add_ppa` meets its contract: each refusal by the tests that led there.
+-- Each refusal has the test that led there, in the definition's order; a PPA that passes them has a place.
 use mathlib.Core.Path.{refl}
 use mathlib.Core.List.{[]}
 use denote.Ref.{now}
@@ -21,14 +21,17 @@ returns-2 : tie.Need-returns-2
 unfolding addsPpa leaving _⇒_∣_
 returns-2 c =
     let r = c .before .before .before .before in
-    λ room. simp (← r .before .remembers .ensures, r .if1 .left, ← c .before .before .ppa-total .ensures, le-leb _ _ (c .before .if2 .taken), c .refusing2 .ensures)
+    let ninth = le-leb _ _ (c .before .if2 .taken) in
+    λ room. simp (← r .before .remembers .ensures, r .if1 .left, ← c .before .before .ppa-total .ensures, ninth, c .refusing2 .ensures)
 
 returns-3 : tie.Need-returns-3
 unfolding addsPpa leaving _⇒_∣_
 returns-3 c =
     let n = c .before .before .before .before in
     let r = n .before .before .before in
-    λ room. simp (← r .before .remembers .ensures, r .if1 .left, ← n .before .ppa-total .ensures, lt-leb _ _ (n .if2 .left), ← c .before .before .knows .ensures, c .before .if3 .taken, c .refusing3 .ensures)
+    let few = lt-leb _ _ (n .if2 .left) in
+    let known = c .before .before .knows .ensures in
+    λ room. simp (← r .before .remembers .ensures, r .if1 .left, ← n .before .ppa-total .ensures, few, ← known, c .before .if3 .taken, c .refusing3 .ensures)
 
 returns-4 : tie.Need-returns-4
 unfolding addsPpa _⇒_∣_
@@ -37,8 +40,10 @@ returns-4 c =
     let n = k .before .before .before in
     let r = n .before .before .before in
     let a = r .before .before .before .before .before .args in
-    λ room. simp (← r .before .remembers .ensures, r .if1 .left, ← n .before .ppa-total .ensures, lt-leb _ _ (n .if2 .left), ← k .before .knows .ensures, k .if3 .left)
-    (leaves-served (now (a .img)) room (withPpa (tableOf (now (a .img))) (record { number = a .p; mac = now (a .mac) })) [] 0 _ room refl (c .before .before .store-ppa .ensures) refl)
+    let few = lt-leb _ _ (n .if2 .left) in
+    λ room. simp (← r .before .remembers .ensures, r .if1 .left, ← n .before .ppa-total .ensures, few, ← k .before .knows .ensures, k .if3 .left)
+    (leaves-served (now (a .img)) room (withPpa (tableOf (now (a .img))) (record { number = a .p; mac = now (a .mac) })) [] 0 _ room
+    (record { ends = refl; stands = refl }) (c .before .before .store-ppa .ensures))
 
 pub add-ppa-spec : {M : Type 1} → statement M
 add-ppa-spec =
@@ -49,6 +54,7 @@ add-ppa-spec =
     (λ c. search needs)
     returns
     (λ c κs. search needs)
+    (λ c. search needs)
     (λ c κs. search needs)
     (λ c. search needs)
     returns-2

@@ -1,4 +1,4 @@
--- `call_openings::put_drops` meets its contract: after k turns the goodbyes of the k oldest stand at the room's start.
+-- After k turns the goodbyes of the k oldest stand at the room's start.
 use Prim.Native.Nat.{ℕ, _*_, _-_, _≤_}
 use native.Mathlib.Omega.{arith}
 use mathlib.Core.Path.{_≡_, refl, ap, _∙_}
@@ -10,18 +10,20 @@ use borrow.Author.Needs.{needs}
 use Rattle.octets.specs.Runs.{over}
 use Rattle.octets.proofs.Runs.{over-next}
 use Rattle.paper.specs.Base.{waiting}
-use Rattle.paper.specs.RecordsOut.{order, bytesOf, allBytes}
+use Rattle.paper.specs.RecordsOut.{order, bytesOf, allBytes, disconnectSize}
 use Rattle.paper.specs.Openings.{goodbye}
 use Rattle.paper.specs.declared.LineOrder.the-variants as lineOrder
 use Rattle.paper.proofs.RecordsOut.{goodbyes-long}
 use Rattle.table_image.specs.Layout.{tableOf}
 use Rattle.call_openings.proofs.Laws.{goodbyes-next}
 use Rattle.call_openings.proofs.put_drops.Statement.{statement}
+use Rattle.paper.specs.Saps.{mostOpen}
+use Rattle.octets.proofs.Writing.{wrote-most, wrote-of, wrote-over, over-wrote}
 use Rattle.call_openings.proofs.put_drops.Tie as tie
 
 abbrev Inv-loop : tie.InvT-loop
 Inv-loop img room₀ i at count k₀ room k =
-    (k ≤ count) × (count ≤ 8) × (length room ≡ length room₀) × (room ≡ over (allBytes (map (goodbye i) (take k (waiting (tableOf img) i)))) room₀)
+    (k ≤ count) × (count ≤ mostOpen) × (length room ≡ length room₀) × (room ≡ over (allBytes (map (goodbye i) (take k (waiting (tableOf img) i)))) room₀)
 
 abbrev μ-loop : tie.MeasureT-loop
 μ-loop img room₀ i at count k₀ room k = count - k
@@ -29,7 +31,7 @@ abbrev μ-loop : tie.MeasureT-loop
 loop-holds : tie.Need-loop-holds Inv-loop μ-loop
 loop-holds c =
     let a = c .before .before .before in
-    (omega arith, omega (arith, c .count-at .ensures, a .pre .2 .shaped .eight (a .args .i)), refl, refl)
+    (omega arith, omega (arith, c .count-at .ensures, a .pre .at .lent .shaped .eight (a .args .i)), refl, refl)
 
 loop-again : tie.Need-loop-again Inv-loop μ-loop
 loop-again c =
@@ -39,13 +41,13 @@ loop-again c =
     let count = l .before .count-at in
     let w : List ℕ = waiting (tableOf (now (a .img))) (a .i) in
     let old : List ℕ = allBytes (map (goodbye (a .i)) (take (l .loop .k) w)) in
-    let size : length old ≡ l .loop .k * 10 =
+    let size : length old ≡ l .loop .k * disconnectSize =
     omega (arith, goodbyes-long (a .i) (take (l .loop .k) w), length-take-le (l .loop .k) w (omega (arith, count .ensures))) in (
       omega arith,
       l .loop .inv .1,
       search needs,
-      over-next old (bytesOf (order (a .i) (lineOrder.Disconnect (call .result) 0) [])) (now (a .room)) (l .loop .k * 10) (l .loop .inv .3) size
-          (c .before .before .put-order .ensures .2)
+      over-next old (bytesOf (order (a .i) (lineOrder.Disconnect (call .result) 0) [])) (now (a .room)) (l .loop .k * disconnectSize) (l .loop .inv .3) size
+          (wrote-over _ (wrote-of (c .before .before .put-order .ensures)))
           ∙ ap (λ (b : List ℕ). over b (now (a .room))) (goodbyes-next (a .i) (l .loop .k) w (call .result) (omega (arith, count .ensures)) (call .ensures)),
     )
 
@@ -54,12 +56,11 @@ returns c =
     let l = c .before in
     let a = l .before .before .before .before .args in
     let count = l .before .count-at in
-    let w : List ℕ = waiting (tableOf (now (a .img))) (a .i) in (
-      omega (arith, goodbyes-long (a .i) w, count .ensures),
-      omega arith,
-      l .loop .inv .3
-          ∙ ap (λ (v : List ℕ). over (allBytes (map (goodbye (a .i)) v)) (now (a .room))) (take-all (l .loop .k) w (omega (arith, count .ensures))),
-    )
+    let w : List ℕ = waiting (tableOf (now (a .img))) (a .i) in
+    let bytes : List ℕ → List ℕ = λ v. allBytes (map (goodbye (a .i)) v) in
+    let all = take-all (l .loop .k) w (omega (arith, count .ensures)) in
+    wrote-most (omega arith)
+    (over-wrote (bytes w) (omega (arith, goodbyes-long (a .i) w, count .ensures)) (l .loop .inv .3 ∙ ap (λ (v : List ℕ). over (bytes v) (now (a .room))) all))
 
 pub put-drops-spec : {M : Type 1} → statement M
 put-drops-spec =

@@ -1,4 +1,4 @@
--- `fates::call_and_tell` meets its contract: what the call left is what is entered and printed.
+-- What is entered and printed are the lines of the answer and the room that the call left, and those are what the call is defined to leave.
 use native.Mathlib.Omega.{arith}
 use Prim.Native.Nat.{_+_}
 use mathlib.Core.Path.{ap, _∙_}
@@ -17,23 +17,32 @@ use Rattle.fates.proofs.call_and_tell.Tie as tie
 call-sound-requires : tie.Need-call-sound-requires
 call-sound-requires c κs =
     let start = c .before .before .before .before .before .before in
-    told-sound (now (start .args .table)) (now (start .args .register)) (start .pre .0)
+    told-sound (now (start .args .table)) (now (start .args .register)) (start .pre .told)
 
 returns : tie.Need-returns
 returns c =
-    let start = c .before .before .before .before .before .before .before .before .before .before .before .before .before .before .before .before .before .before in
+    let noted = c .before .before .before .before in
+    let back = noted .before .before .before .before in
+    let called = back .before .before .before in
+    let lent = called .before .before .before .before in
+    let start = lent .before .before .before in
     let a = start .args in
-    let byte = c .before .before .before .before .before .before .before .before .before .before .before .before .before .before .before .shared-slice-known .given in
-    let left = c .before .before .before .before .before .before .before .before .before .before .before .call-sound .ensures in
-    let told = c .before .before .before .before .tell-call .ensures in
+    let left = called .call-sound .ensures in
+    let told = noted .tell-call .ensures in
     let image = ap (λ (l : Left). l .image) left in
-    let entered = told .1 .1 ∙ ap (λ (l : Left). enteredAll (linesBy (now (a .bytes)) l) (now (a .register))) left in (
-      (rw (image, entered) (told-next (now (a .table)) (now (a .register)) (now (a .bytes)) (start .pre .0) (λ k. omega (arith, byte k))), image, entered),
-      (
-        told .0 .1 ∙ ap (λ (l : Left). paste (now (a .out)) (a .at) (allText (linesBy (now (a .bytes)) l) (now (a .register)))) left,
-        (told .0 .0 ∙ ap (λ (l : Left). a .at + length (allText (linesBy (now (a .bytes)) l) (now (a .register)))) left, told .1 .0),
-      ),
-    )
+    let entered = told .entered ∙ ap (λ (l : Left). enteredAll (linesBy (now (a .bytes)) l) (now (a .register))) left in
+    let next =
+    told-next (now (a .table)) (now (a .register)) (now (a .bytes)) (start .pre .told) (λ k. omega (arith, lent .shared-slice-known .given k)) in
+    record {
+      told = rw (image, entered) next;
+      image = image;
+      entered = entered;
+      wrote = record {
+        few = told .wrote .few;
+        ends = told .wrote .ends ∙ ap (λ (l : Left). a .at + length (allText (linesBy (now (a .bytes)) l) (now (a .register)))) left;
+        stands = told .wrote .stands ∙ ap (λ (l : Left). paste (now (a .out)) (a .at) (allText (linesBy (now (a .bytes)) l) (now (a .register)))) left;
+      };
+    }
 
 pub call-and-tell-spec : {M : Type 1} → statement M
 call-and-tell-spec =

@@ -1,4 +1,4 @@
--- `fates::called` meets its contract: what the call printed is what the turn counts.
+-- The turn counts what the call printed: where its text ends.
 use mathlib.Core.Bool.{false}
 use mathlib.Core.Path.{_∙_}
 use denote.Ref.{now}
@@ -7,14 +7,28 @@ use Rattle.turns.specs.Turns.{afterCall}
 use Rattle.fates.proofs.called.Statement.{statement}
 use Rattle.fates.proofs.called.Tie as tie
 
+call-and-tell-requires : tie.Need-call-and-tell-requires
+call-and-tell-requires c κs =
+    let lent = c .before .before .before in
+    let start = lent .before .before .before .before .before in
+    record { told = start .pre .turn .told; long = search needs; room = search needs }
+
 returns : tie.Need-returns
 returns c =
-    let a = c .before .before .before .before .before .before .before .before .before .before .before .before .before .before .before .before .args in
-    let told = c .before .before .before .before .before .before .before .call-and-tell .ensures in
-    let after = c .after-call .ensures in (
-      (after .0 ∙ (λ i. afterCall (now (a .input)) (told .1 .1 .0 i) false (a .t)), after .1),
-      (told .0, told .1 .0),
-    )
+    let back = c .before .before .before .before in
+    let made = back .before .before .before in
+    let lent = made .before .before .before .before in
+    let start = lent .before .before .before .before .before in
+    let told = made .call-and-tell .ensures in
+    let after = c .after-call .ensures in
+    record {
+      is = after .is ∙ (λ i. afterCall (now (start .args .input)) (told .wrote .ends i) false (start .args .t));
+      fine = after .fine;
+      told = told .told;
+      image = told .image;
+      entered = told .entered;
+      stands = told .wrote .stands;
+    }
 
 pub called-spec : {M : Type 1} → statement M
 called-spec =
@@ -23,7 +37,7 @@ called-spec =
     (λ c. search needs)
     (λ c. search needs)
     (λ c. search needs)
-    (λ c κs. search needs)
+    call-and-tell-requires
     (λ c κs. search needs)
     (λ c. search needs)
     (λ c. search needs)

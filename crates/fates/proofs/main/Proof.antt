@@ -1,4 +1,4 @@
--- `fates::main` starts from a fresh table and a blank register.
+-- A fresh table and a blank register are what was told before the first call, and the first line fits the output, so the turns may begin.
 use mathlib.Core.Path.{sym, subst}
 use mathlib.Core.List.{List}
 use borrow.Author.Needs.{needs}
@@ -11,8 +11,15 @@ use Rattle.fates.proofs.main.Tie as tie
 
 run-requires : tie.Need-run-requires
 run-requires c κs =
-    let made = c .before .before .before .before .before .before .before .before .before .before .before .make-fresh .ensures in
-    (subst (λ (l : List ℕ). Told l blank) (sym made) told-first, search needs, search needs, search needs, search needs)
+    let titled = c .before .before .before .before .before .before in
+    let fresh = titled .before .before .before .before .before in
+    record {
+      told = subst (λ (l : List ℕ). Told l blank) (sym (fresh .make-fresh .ensures)) told-first;
+      long = search needs;
+      reads = search needs;
+      prints = search needs;
+      fine = search needs;
+    }
 
 pub main-spec : {M : Type 1} → statement M
 main-spec =

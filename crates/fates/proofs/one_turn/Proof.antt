@@ -1,12 +1,20 @@
--- `fates::one_turn` meets its contract: reading on and writing out leave the table and the register as they are.
+-- Reading on and writing out leave the table and the register as they are, so the turn meets what was told before.
 use borrow.Author.Needs.{needs}
 use Rattle.fates.proofs.one_turn.Statement.{statement}
 use Rattle.fates.proofs.one_turn.Tie as tie
 
 turned-requires : tie.Need-turned-requires
 turned-requires c κs =
-    let start = c .before .before .before .before .before .before .before .before .before .before .before .before .before .before .before .before .before .before in
-    (start .pre .0, search needs, search needs, search needs, search needs)
+    let drained = c .before .before .before .before .before .before in
+    let fed = drained .before .before .before .before .before .before in
+    let start = fed .before .before .before .before .before .before in
+    record {
+      told = start .pre .told;
+      long = search needs;
+      reads = search needs;
+      prints = search needs;
+      ready = search needs;
+    }
 
 pub one-turn-spec : {M : Type 1} → statement M
 one-turn-spec =

@@ -1,19 +1,37 @@
--- `fates::run` meets its contract: each turn leaves what the next one asks, and one fewer is left.
+-- Each turn leaves what the next one asks, and one fewer is left.
 use native.Mathlib.Omega.{arith}
+use Prim.Native.Nat.{ℕ}
 use mathlib.Core.Path.{_≡_}
+use mathlib.Core.List.{List}
 use lib.ListN.{length}
 use borrow.Author.Needs.{needs}
-use Rattle.turns.specs.Turns.{Fine}
-use Rattle.fates.specs.Told.{Told}
+use Rattle.turns.specs.declared.Turn.{Turn}
+use Rattle.fates.specs.Turns.{Kept}
 use Rattle.fates.proofs.run.Statement.{statement}
 use Rattle.fates.proofs.run.Tie as tie
 
+record Turning (table₀ register₀ input₀ output₀ table register input output : List ℕ) (t : Turn) : Type 0 where
+  kept : Kept table register t
+  image : length table ≡ length table₀
+  long : length register ≡ length register₀
+  reads : length input ≡ length input₀
+  prints : length output ≡ length output₀
+
 abbrev Inv-loop : tie.InvT-loop
 Inv-loop table₀ register₀ input₀ output₀ t₀ left₀ table register input output t left =
-    Fine t × Told table register × (length table ≡ length table₀) × (length register ≡ length register₀) × (length input ≡ length input₀) × (length output ≡ length output₀)
+    Turning table₀ register₀ input₀ output₀ table register input output t
 
 abbrev μ-loop : tie.MeasureT-loop
 μ-loop table₀ register₀ input₀ output₀ t₀ left₀ table register input output t left = left
+
+loop-again : tie.Need-loop-again Inv-loop μ-loop
+loop-again c = record {
+  kept = search needs;
+  image = search needs;
+  long = search needs;
+  reads = search needs;
+  prints = search needs;
+}
 
 pub run-spec : {M : Type 1} → statement M
 run-spec =
@@ -30,7 +48,7 @@ run-spec =
     (λ c κs. search needs)
     (λ c. search needs)
     (λ c. omega arith)
-    (λ c. (search needs, search needs, search needs, search needs, search needs, search needs))
+    loop-again
     (λ c. search needs)
     (λ c. search needs)
     (λ c. search needs)

@@ -1,6 +1,6 @@
--- `fates::turned` meets its contract: one test after another.
+-- The two tests are those of the definition, in their order: a turn that waits, one that is over, and one with a call.
 use native.Mathlib.Omega.{arith}
-use mathlib.Core.Path.{refl, sym, _∙_}
+use mathlib.Core.Path.{sym, _∙_}
 use borrow.Author.Needs.{needs}
 use Rattle.ledger.specs.Choice.{_⇒_∣_}
 use Rattle.turns.specs.Turns.{turnAfter, afterTurn}
@@ -10,27 +10,64 @@ use Rattle.fates.proofs.turned.Tie as tie
 
 returns : tie.Need-returns
 unfolding turnAfter afterTurn _⇒_∣_
-returns c = let start = c .before .before .before .before .before .before in rw (← c .before .waits .ensures, c .if1 .taken) ((refl, search needs), ((start .pre .0, refl, refl), refl))
+returns c =
+    let start = c .before .before .before .before .before .before in
+    record {
+      is = rw (← c .before .waits .ensures, c .if1 .taken);
+      fine = search needs;
+      told = start .pre .told;
+      image = rw (← c .before .waits .ensures, c .if1 .taken);
+      entered = rw (← c .before .waits .ensures, c .if1 .taken);
+      stands = rw (← c .before .waits .ensures, c .if1 .taken);
+    }
 
 returns-2 : tie.Need-returns-2
 unfolding turnAfter afterTurn _⇒_∣_
 returns-2 c =
-    let start = c .before .before .before .before .before .before .before .before .before in
-    let w = c .before .before .before in
-    rw (← w .before .waits .ensures, w .if1 .left, ← c .before .before .is-over .ensures, c .before .if2 .taken) (c .stopped .ensures, ((start .pre .0, refl, refl), refl))
+    let over = c .before in
+    let goes = over .before .before in
+    let start = goes .before .before .before .before .before .before in
+    record {
+      is = rw (← goes .before .waits .ensures, goes .if1 .left, ← over .before .is-over .ensures, over .if2 .taken) (c .stopped .ensures .is);
+      fine = c .stopped .ensures .fine;
+      told = start .pre .told;
+      image = rw (← goes .before .waits .ensures, goes .if1 .left, ← over .before .is-over .ensures, over .if2 .taken);
+      entered = rw (← goes .before .waits .ensures, goes .if1 .left, ← over .before .is-over .ensures, over .if2 .taken);
+      stands = rw (← goes .before .waits .ensures, goes .if1 .left, ← over .before .is-over .ensures, over .if2 .taken);
+    }
 
 called-requires : tie.Need-called-requires
 called-requires c κs =
-    let start = c .before .before .before .before .before .before .before .before .before .before .before in
-    let o = c .before .before .before in
-    (start .pre .0, search needs, search needs, search needs, search needs, omega (arith, start .good .1 .1 .1 .1 .0 .1 .1 .1 .1 .1 .1 .0, not-over (start .args .t) (sym (o .before .is-over .ensures) ∙ o .if2 .left)))
+    let on = c .before .before .before in
+    let waited = on .before .before .before in
+    let start = waited .before .before .before .before .before in
+    let more = not-over (start .args .t) (sym (on .before .is-over .ensures) ∙ on .if2 .left) in
+    record {
+      turn = record {
+        told = start .pre .told;
+        long = search needs;
+        reads = search needs;
+        prints = search needs;
+        ready = start .pre .ready;
+      };
+      numbered = omega (arith, start .good, more);
+    }
 
 returns-3 : tie.Need-returns-3
 unfolding turnAfter afterTurn _⇒_∣_
 returns-3 c =
-    let o = c .before .before .before .before .before .before .before .before .before .before in
-    let w = c .before .before .before .before .before .before .before .before .before .before .before .before in
-    rw (← w .before .waits .ensures, w .if1 .left, ← o .before .is-over .ensures, o .if2 .left) (c .before .before .before .before .before .before .called .ensures)
+    let called = c .before .before .before .before .before .before in
+    let on = called .before .before .before .before in
+    let goes = on .before .before in
+    let left = called .called .ensures in
+    record {
+      is = rw (← goes .before .waits .ensures, goes .if1 .left, ← on .before .is-over .ensures, on .if2 .left) (left .is);
+      fine = left .fine;
+      told = left .told;
+      image = rw (← goes .before .waits .ensures, goes .if1 .left, ← on .before .is-over .ensures, on .if2 .left) (left .image);
+      entered = rw (← goes .before .waits .ensures, goes .if1 .left, ← on .before .is-over .ensures, on .if2 .left) (left .entered);
+      stands = rw (← goes .before .waits .ensures, goes .if1 .left, ← on .before .is-over .ensures, on .if2 .left) (left .stands);
+    }
 
 pub turned-spec : {M : Type 1} → statement M
 turned-spec =

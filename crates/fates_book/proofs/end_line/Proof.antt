@@ -1,3 +1,4 @@
+-- The one test of the code is that of the definition.
 use borrow.Author.Tests.{eq-eqb, ne-eqb}
 use Rattle.ledger.specs.Choice.{_⇒_∣_}
 use Rattle.fates_book.specs.Lines.{endLine}

@@ -1,9 +1,13 @@
+-- An opening begins where its page is cleared first and then counted.
 use borrow.Author.Needs.{needs}
 use Rattle.fates_register.proofs.begin.Statement.{statement}
 use Rattle.fates_register.proofs.begin.Tie as tie
 
 returns : tie.Need-returns
-returns c = rw (c .before .before .count .ensures, c .before .before .before .before .before .before .clear .ensures)
+returns c =
+    let counted = c .before .before in
+    let anew = counted .before .before .before .before in
+    rw (counted .count .ensures, anew .clear .ensures)
 
 pub begin-spec : {M : Type 1} → statement M
 begin-spec =

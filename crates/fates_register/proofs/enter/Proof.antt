@@ -1,3 +1,4 @@
+-- Each kind of line has its own change in the definition too, and both leave a register as it is for a stream without a page.
 use borrow.Author.Tests.{lt-ltb, le-ltb}
 use borrow.Author.Needs.{needs}
 use Rattle.ledger.specs.Choice.{_⇒_∣_}
@@ -19,15 +20,24 @@ returns-3 c = simp (c .before .before .y3 .given .1, le-ltb _ _ (c .if3 .taken))
 
 returns-4 : tie.Need-returns-4
 unfolding entered _⇒_∣_
-returns-4 c = simp (c .before .before .before .before .before .before .y .given .1, lt-ltb _ _ (c .before .before .before .before .if1 .left)) (c .before .before .begin .ensures)
+returns-4 c =
+    let done = c .before .before in
+    let paged = done .before .before in
+    simp (paged .before .before .y .given .1, lt-ltb _ _ (paged .if1 .left)) (done .begin .ensures)
 
 returns-5 : tie.Need-returns-5
 unfolding entered _⇒_∣_
-returns-5 c = simp (c .before .before .before .before .before .before .y2 .given .1, lt-ltb _ _ (c .before .before .before .before .if2 .left)) (c .before .before .ring .ensures)
+returns-5 c =
+    let done = c .before .before in
+    let paged = done .before .before in
+    simp (paged .before .before .y2 .given .1, lt-ltb _ _ (paged .if2 .left)) (done .ring .ensures)
 
 returns-6 : tie.Need-returns-6
 unfolding entered _⇒_∣_
-returns-6 c = simp (c .before .before .before .before .before .before .y3 .given .1, lt-ltb _ _ (c .before .before .before .before .if3 .left)) (c .before .before .leave .ensures)
+returns-6 c =
+    let done = c .before .before in
+    let paged = done .before .before in
+    simp (paged .before .before .y3 .given .1, lt-ltb _ _ (paged .if3 .left)) (done .leave .ensures)
 
 returns-7 : tie.Need-returns-7
 unfolding entered _⇒_∣_
@@ -42,16 +52,16 @@ enter-spec =
     tie.close
     (tie.spec
     (λ c. search needs)
-    returns
     (λ c. search needs)
+    returns
     (λ c κs. search needs)
+    (λ c. search needs)
     (λ c. search needs)
     returns-2
-    (λ c. search needs)
     (λ c κs. search needs)
     (λ c. search needs)
-    returns-3
     (λ c. search needs)
+    returns-3
     (λ c κs. search needs)
     (λ c. search needs)
     (λ c. search needs)

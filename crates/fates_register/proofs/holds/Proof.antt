@@ -1,3 +1,4 @@
+-- The number is compared only where the place is taken, and else both tests fail together.
 use borrow.Author.Tests.{lt-ltb, le-ltb}
 use borrow.Author.Needs.{needs}
 use Rattle.fates_register.proofs.holds.Statement.{statement}

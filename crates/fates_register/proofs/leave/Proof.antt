@@ -1,9 +1,13 @@
+-- One that ends is counted under its end, and then gives up its place.
 use borrow.Author.Needs.{needs}
 use Rattle.fates_register.proofs.leave.Statement.{statement}
 use Rattle.fates_register.proofs.leave.Tie as tie
 
 returns : tie.Need-returns
-returns c = rw (c .before .before .remove .ensures, c .before .before .before .before .before .before .count .ensures, c .before .before .before .before .before .before .before .count-of .ensures .0)
+returns c =
+    let removed = c .before .before in
+    let counted = removed .before .before .before .before in
+    rw (removed .remove .ensures, counted .count .ensures, counted .before .count-of .ensures .is)
 
 pub leave-spec : {M : Type 1} → statement M
 leave-spec =

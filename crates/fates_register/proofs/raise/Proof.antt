@@ -1,3 +1,4 @@
+-- The cell that is read is the cell that is written.
 use Rattle.fates_register.specs.Register.{raised}
 use borrow.Author.Needs.{needs}
 use Rattle.fates_register.proofs.raise.Statement.{statement}

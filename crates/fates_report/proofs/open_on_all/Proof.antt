@@ -1,32 +1,47 @@
--- `fates_report::open_on_all` meets its contract: the sum so far, and that of the streams that follow.
-use Prim.Native.Nat.{_+_, _*_, _-_, _≤_}
+-- The sum so far and that of the streams that follow are the whole sum at every turn.
+use Prim.Native.Nat.{ℕ, _+_, _*_, _-_, _≤_}
 use native.Mathlib.Omega.{arith}
 use mathlib.Core.Path.{_≡_}
+use mathlib.Core.List.{List}
 use denote.Ref.{now}
 use borrow.Author.Needs.{needs}
+use Rattle.paper.specs.Base.{streamTotal}
+use Rattle.paper.specs.Saps.{mostOpen}
 use Rattle.fates_report.specs.Report.{openOnAll}
 use Rattle.fates_report.proofs.Laws.{sum-end, sum-next}
 use Rattle.fates_report.proofs.open_on_all.Statement.{statement}
 use Rattle.fates_report.proofs.open_on_all.Tie as tie
 
+record ToCome (register : List ℕ) (sum i : ℕ) : Type 0 where
+  within : i ≤ streamTotal
+  few : sum ≤ mostOpen * i
+  whole : openOnAll streamTotal 0 register ≡ sum + openOnAll (streamTotal - i) i register
+
 abbrev Inv-loop : tie.InvT-loop
-Inv-loop register sum₀ i₀ sum i =
-    (i ≤ 16) × (sum ≤ 8 * i) × (openOnAll 16 0 register ≡ sum + openOnAll (16 - i) i register)
+Inv-loop register sum₀ i₀ sum i = ToCome register sum i
 
 abbrev μ-loop : tie.MeasureT-loop
-μ-loop register sum₀ i₀ sum i = 16 - i
+μ-loop register sum₀ i₀ sum i = streamTotal - i
 
 loop-holds : tie.Need-loop-holds Inv-loop μ-loop
-loop-holds c = (omega arith, omega arith, omega arith)
+loop-holds c = record { within = omega arith; few = omega arith; whole = omega arith }
 
 loop-again : tie.Need-loop-again Inv-loop μ-loop
 loop-again c =
-    let l = c .before .before .loop in
-    let o = c .open-on in
-    (omega arith, omega (arith, o .ensures .1), omega (arith, l .inv .2, o .ensures .0, sum-next 16 (l .i) (now (c .before .before .before .before .args .register)) (search needs)))
+    let turn = c .before .before in
+    let g = now (turn .before .before .args .register) in
+    let one = c .open-on .ensures in
+    record {
+      within = omega arith;
+      few = omega (arith, one .few);
+      whole = omega (arith, turn .loop .inv .whole, one .is, sum-next streamTotal (turn .loop .i) g (search needs));
+    }
 
 returns : tie.Need-returns Inv-loop μ-loop
-returns c = omega (arith, c .before .loop .inv .2, sum-end 16 (c .before .loop .i) (now (c .before .before .before .args .register)) (c .loop-test .left))
+returns c =
+    let turn = c .before in
+    let g = now (turn .before .before .args .register) in
+    omega (arith, turn .loop .inv .whole, sum-end streamTotal (turn .loop .i) g (c .loop-test .left))
 
 pub open-on-all-spec : {M : Type 1} → statement M
 open-on-all-spec =

@@ -1,45 +1,62 @@
--- `fates_report::put_ends` meets its contract: the streams that are still to come lead to the same text.
-use Prim.Native.Nat.{_+_, _*_, _-_, _≤_}
+-- Each turn writes the text of the next stream, so the streams that follow lead to the same text.
+use Prim.Native.Nat.{ℕ, _+_, _*_, _-_, _≤_}
 use native.Mathlib.Omega.{arith}
 use mathlib.Core.Path.{_≡_, refl}
+use mathlib.Core.List.{List}
 use denote.Ref.{now}
 use lib.ListN.{length}
 use borrow.Author.Needs.{needs}
-use Rattle.fates_report.specs.Report.{endText, endTexts}
+use Rattle.octets.proofs.Writing.{Unwritten, all-unwritten, less-unwritten, none-unwritten, wrote-most, wrote-of}
+use Rattle.paper.specs.Base.{streamTotal}
+use Rattle.fates_report.specs.Report.{endText, endTexts, endSize}
 use Rattle.fates_report.proofs.Laws.{ends-end, ends-next}
 use Rattle.fates_report.proofs.put_ends.Statement.{statement}
 use Rattle.fates_report.proofs.put_ends.Tie as tie
-use Rattle.octets.proofs.Writing.{Unwritten, all-unwritten, less-unwritten, none-unwritten}
+
+record ToCome (out₀ : List ℕ) (at : ℕ) (register out : List ℕ) (e i : ℕ) : Type 0 where
+  within : i ≤ streamTotal
+  few : e ≤ at + endSize * i
+  long : length out ≡ length out₀
+  rest : Unwritten out₀ at (endTexts streamTotal 0 register) out e (endTexts (streamTotal - i) i register)
 
 abbrev Inv-loop : tie.InvT-loop
-Inv-loop out₀ at register e₀ i₀ out e i =
-    (i ≤ 16) × (e ≤ at + 1000 * i) × (length out ≡ length out₀) × Unwritten out₀ at (endTexts 16 0 register) out e (endTexts (16 - i) i register)
+Inv-loop out₀ at register e₀ i₀ out e i = ToCome out₀ at register out e i
 
 abbrev μ-loop : tie.MeasureT-loop
-μ-loop out₀ at register e₀ i₀ out e i = 16 - i
+μ-loop out₀ at register e₀ i₀ out e i = streamTotal - i
 
 loop-holds : tie.Need-loop-holds Inv-loop μ-loop
 loop-holds c =
     let a = c .before .before .args in
-    (omega arith, omega arith, refl, all-unwritten (now (a .out)) (a .at) (endTexts 16 0 (now (a .register))))
+    record {
+      within = omega arith;
+      few = omega arith;
+      long = refl;
+      rest = all-unwritten (now (a .out)) (a .at) (endTexts streamTotal 0 (now (a .register)));
+    }
 
 loop-again : tie.Need-loop-again Inv-loop μ-loop
 loop-again c =
-    let a = c .before .before .before .before .before .before .before .before .args in
-    let l = c .before .before .before .before .before .loop in
-    let one = c .before .before .put-end in
-    let g = now (a .register) in (
-      omega arith,
-      omega (arith, one .ensures .1),
-      search needs,
-      less-unwritten (endText (l .i) g) (endTexts (16 - (l .i + 1)) (l .i + 1) g) (omega arith) (l .inv .3) (ends-next 16 (l .i) g (search needs)) (one .ensures .0),
-    )
+    let wrote = c .before .before in
+    let turn = wrote .before .before .before in
+    let l = turn .loop in
+    let g = now (turn .before .before .before .args .register) in
+    let one = wrote .put-end .ensures in
+    record {
+      within = omega arith;
+      few = omega (arith, one .few);
+      long = search needs;
+      rest =
+          less-unwritten (endText (l .i) g) (endTexts (streamTotal - (l .i + 1)) (l .i + 1) g) (omega arith) (l .inv .rest)
+          (ends-next streamTotal (l .i) g (search needs)) (wrote-of one);
+    }
 
 returns : tie.Need-returns Inv-loop μ-loop
 returns c =
-    let a = c .before .before .before .before .args in
-    let l = c .before .loop in
-    (none-unwritten (l .inv .3) (ends-end 16 (l .i) (now (a .register)) (c .loop-test .left)), search needs)
+    let turn = c .before in
+    let l = turn .loop in
+    let g = now (turn .before .before .before .args .register) in
+    wrote-most (search needs) (none-unwritten (l .inv .rest) (ends-end streamTotal (l .i) g (c .loop-test .left)))
 
 pub put-ends-spec : {M : Type 1} → statement M
 put-ends-spec =

@@ -1,29 +1,31 @@
--- `fates_report::put_total` meets its contract: one piece behind the other.
-use mathlib.Core.List.{[], _∷_, _++_}
+-- The line has four pieces, each written behind the one before it, and the last number is the sum over the streams.
+use native.Mathlib.Omega.{arith}
+use Prim.Native.Nat.{_≤_}
 use denote.Ref.{now}
+use lib.ListN.{length}
 use borrow.Author.Needs.{needs}
-use Rattle.fates_report.specs.Report.{wordTotal, spacedNumber, numbers}
+use Rattle.octets.proofs.Writing.{wrote-then, wrote-most, wrote-of}
 use Rattle.fates_report.proofs.put_total.Statement.{statement}
 use Rattle.fates_report.proofs.put_total.Tie as tie
-use Rattle.octets.proofs.Runs.{paste-after}
 
 returns : tie.Need-returns
 returns c =
-    let a = c .before .before .before .before .before .before .before .before .before .before .before .before .before .before .before .before .before .before .before .before .before .args in
-    let l = now (a .register) in
-    let o = c .before .before .before .before .before .before .before .before .open-on-all in
-    let toEnds = wordTotal ++ numbers 6 384 l in
-    let toOpen = toEnds ++ spacedNumber (o .result) in
-    rw (← o .ensures) (
-      paste-after (now (a .out)) (a .at) toOpen (10 ∷ []) (search needs)
-          (paste-after (now (a .out)) (a .at) toEnds (spacedNumber (o .result)) (search needs)
-          (paste-after (now (a .out)) (a .at) wordTotal (numbers 6 384 l) (search needs)
-          (c .before .before .before .before .before .before .before .before .before .before .before .before .before .before .before .before .put-word .ensures)
-          (c .before .before .before .before .before .before .before .before .before .before .before .before .put-numbers .ensures .0))
-          (c .before .before .before .before .before .before .before .put-spaced .ensures .0))
-          (c .before .before .put-word2 .ensures),
-      search needs,
-    )
+    let wrote-end = c .before .before in
+    let wrote-open = wrote-end .before .before .before .before .before in
+    let asked = wrote-open .before in
+    let wrote-counts = asked .before .before .before .before in
+    let wrote-word = wrote-counts .before .before .before .before in
+    let start = wrote-word .before .before .before .before .before in
+    let fits : start .args .at ≤ length (now (start .args .out)) = omega (arith, start .pre .room) in
+    let to-counts = wrote-then fits (wrote-word .put-word .ensures) (wrote-of (wrote-counts .put-numbers .ensures)) in
+    let to-open = wrote-then fits to-counts (wrote-of (wrote-open .put-spaced .ensures)) in
+    rw (← asked .open-on-all .ensures) (wrote-most (omega (
+      arith,
+      wrote-word .put-word .ensures .ends,
+      wrote-counts .put-numbers .ensures .few,
+      wrote-open .put-spaced .ensures .few,
+      wrote-end .put-word2 .ensures .ends,
+    )) (wrote-then fits to-open (wrote-end .put-word2 .ensures)))
 
 pub put-total-spec : {M : Type 1} → statement M
 put-total-spec =

@@ -1,5 +1,5 @@
--- `fates_report::tell_call` meets its contract: the lines of the records behind that of the opening.
-use Prim.Native.Nat.{_/_, _%_}
+-- The lines of a call are that of the opening and those of the records, and the records are told behind the opening.
+use Prim.Native.Nat.{_/_, _%_, _≤_}
 use native.Mathlib.Omega.{arith}
 use denote.Ref.{now}
 use lib.ListN.{length, length-take}
@@ -11,18 +11,29 @@ use Rattle.fates_report.proofs.tell_call.Tie as tie
 
 tell-records-requires : tie.Need-tell-records-requires
 tell-records-requires c κs =
-    let a = c .before .before .before .before .before .before .before .before .before .before .before .before .before .before .before .args in
-    (search needs, rw (c .before .before .start-of .ensures) (omega (arith, length-take (a .answer % 65536) (now (a .room)))), search needs)
+    let started = c .before .before in
+    let told-opening = started .before .before .before .before .before in
+    let read = told-opening .before .before .before in
+    let a = read .before .before .before .before .before .args in
+    record {
+      short = rw (started .start-of .ensures) (omega (arith, length-take (a .answer % 65536) (now (a .room))));
+      lent = search needs;
+    }
 
 returns : tie.Need-returns
 returns c =
-    let a = c .before .before .before .before .before .before .before .before .before .before .before .before .before .before .before .before .before .before .before .before .args in
-    let s = c .before .before .before .before .before .before .before .start-of in
-    let q = c .before .before .before .before .before .before .before .before .before .before .before .before .before .before .before .input-of in
-    let one = c .before .before .before .before .before .before .before .before .before .before .before .before .tell-opening .ensures in
-    let two = c .before .before .before .before .tell-records .ensures in
-    let all = lines-told (now (a .out)) (a .at) (now (a .register)) (openingLines (a .answer / 16777216)) (linesIn (length (now (s .result))) (q .result) (now (s .result))) (search needs) (one .0) (one .1 .1) (two .0) (two .1 .1) in
-    rw (← s .ensures, ← q .ensures) (all .0, (omega (arith, one .1 .0, two .1 .0), all .1))
+    let told-records = c .before .before .before .before in
+    let started = told-records .before .before .before in
+    let told-opening = started .before .before .before .before .before in
+    let read = told-opening .before .before .before in
+    let start = read .before .before .before .before .before in
+    let a = start .args in
+    let fits : a .at ≤ length (now (a .out)) = omega (arith, start .pre .lent .room) in
+    let written = now (started .start-of .result) in
+    let opened = openingLines (a .answer / 16777216) in
+    let said = linesIn (length written) (read .input-of .result) written in
+    rw (← started .start-of .ensures, ← read .input-of .ensures)
+    (lines-told (now (a .register)) opened said fits (told-opening .tell-opening .ensures) (told-records .tell-records .ensures))
 
 pub tell-call-spec : {M : Type 1} → statement M
 tell-call-spec =

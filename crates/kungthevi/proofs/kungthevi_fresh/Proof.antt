@@ -1,3 +1,4 @@
+-- Bytes of an image's length are made the fresh table, and others are left as they stood.
 use mathlib.Core.Path.{ap}
 use borrow.Author.Tests.{eq-eqb, ne-eqb}
 use Rattle.ledger.specs.Choice.{_⇒_∣_}

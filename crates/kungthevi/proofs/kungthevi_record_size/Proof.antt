@@ -1,3 +1,4 @@
+-- A record's size fits 32 bits.
 use native.Mathlib.Omega.{arith}
 use denote.Ref.{now}
 use borrow.Author.Needs.{needs}

@@ -1,4 +1,4 @@
--- `octets::block_with` meets its contract: the tail goes behind what `block_of` made.
+-- The tail goes over the zeros right behind the fields.
 use borrow.Author.Needs.{needs}
 use native.Mathlib.Omega.{arith}
 use denote.Ref.{now}

@@ -1,4 +1,4 @@
--- `octets::byte_at` meets its contract: past the end `getD` is 0.
+-- Past the end there is no byte, and `getD` gives 0 there.
 use denote.Ref.{now}
 use mathlib.Core.Path.{sym}
 use lib.ListN.{List·getD-eq-default}

@@ -1,4 +1,4 @@
--- `octets::is_zero` meets its contract: after i turns `any` is 0 exactly if the first i bytes are.
+-- After i turns `any` is 0 exactly if the first i bytes are.
 use borrow.Author.Needs.{needs}
 use denote.Ref.{now}
 use Prim.Native.Nat.{_≤_, _-_}

@@ -1,3 +1,4 @@
+-- Past the end a part has no byte, across the end as many as are there, and inside as many as are asked for.
 use Prim.Native.Nat.{_-_}
 use mathlib.Core.Path.{sym, _∙_}
 use native.Mathlib.Nat.{add-sub-cancel-left}

@@ -1,4 +1,4 @@
--- `octets::same_bytes` meets its contract: after i turns the first i bytes of both are the same.
+-- After i turns the first i bytes of both are the same, so the rest decides.
 use borrow.Author.Needs.{needs}
 use native.Mathlib.Numerals.{add-one}
 use denote.Ref.{now}

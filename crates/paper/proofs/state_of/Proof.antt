@@ -1,3 +1,4 @@
+-- The numbers are tested as the paper's list has them, so what is none of them is state 0 there too.
 use borrow.Author.Tests.{ne-eqb}
 use Rattle.ledger.specs.Choice.{_⇒_∣_}
 use Rattle.paper.specs.Base.{stateOf}
@@ -34,7 +35,23 @@ returns-7 c = rw (c .match .keys7)
 
 returns-8 : tie.Need-returns-8
 unfolding stateOf _⇒_∣_
-returns-8 c = simp (ne-eqb _ 3 (c .match .rest .0 .0 .0 .0 .0 .0 .1), ne-eqb _ 6 (c .match .rest .0 .0 .0 .0 .0 .1), ne-eqb _ 8 (c .match .rest .0 .0 .0 .0 .1), ne-eqb _ 9 (c .match .rest .0 .0 .0 .1), ne-eqb _ 11 (c .match .rest .0 .0 .1), ne-eqb _ 12 (c .match .rest .0 .1), ne-eqb _ 13 (c .match .rest .1))
+returns-8 c =
+    let not-13 = c .match .rest in
+    let not-12 = not-13 .0 in
+    let not-11 = not-12 .0 in
+    let not-9 = not-11 .0 in
+    let not-8 = not-9 .0 in
+    let not-6 = not-8 .0 in
+    let not-3 = not-6 .0 in
+    simp (
+      ne-eqb _ 3 (not-3 .1),
+      ne-eqb _ 6 (not-6 .1),
+      ne-eqb _ 8 (not-8 .1),
+      ne-eqb _ 9 (not-9 .1),
+      ne-eqb _ 11 (not-11 .1),
+      ne-eqb _ 12 (not-12 .1),
+      ne-eqb _ 13 (not-13 .1),
+    )
 
 pub state-of-spec : {M : Type 1} → statement M
 state-of-spec =

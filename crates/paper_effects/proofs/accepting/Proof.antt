@@ -1,3 +1,4 @@
+-- Each part of the effect of an accept is made by the function that has its name in the paper.
 use borrow.Author.Needs.{needs}
 use Rattle.paper_effects.proofs.accepting.Statement.{statement}
 use Rattle.paper_effects.proofs.accepting.Tie as tie

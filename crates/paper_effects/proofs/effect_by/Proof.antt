@@ -1,3 +1,4 @@
+-- A verdict that a rule fails has the effect of its error; one that serves, that of its service.
 use Rattle.paper.specs.Decide.{effectBy}
 use borrow.Author.Needs.{needs}
 use Rattle.paper_effects.proofs.effect_by.Statement.{statement}

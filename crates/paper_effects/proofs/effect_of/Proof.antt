@@ -1,3 +1,4 @@
+-- Each service has its own effect, made of the parts that the paper names.
 use Rattle.paper.specs.Effects.{effectOf}
 use borrow.Author.Needs.{needs}
 use Rattle.paper_effects.proofs.effect_of.Statement.{statement}
@@ -14,13 +15,11 @@ returns-2 c = rw (c .before .before .enum-told2 .given .1, c .acting2 .ensures, 
 returns-3 : tie.Need-returns-3
 unfolding effectOf
 returns-3 c =
-    rw (
-      c .before .before .before .before .before .v .given .1,
-      c .acting3 .ensures,
-      c .before .ok .ensures,
-      c .before .before .attached-in .ensures,
-      c .before .before .before .next .ensures,
-    )
+    let at-ok = c .before in
+    let at-attached-in = at-ok .before in
+    let at-next = at-attached-in .before in
+    let known = at-next .before .before in
+    rw (known .v .given .1, c .acting3 .ensures, at-ok .ok .ensures, at-attached-in .attached-in .ensures, at-next .next .ensures)
 
 returns-4 : tie.Need-returns-4
 unfolding effectOf
@@ -28,7 +27,11 @@ returns-4 c = rw (c .before .before .before .enum-told3 .given .1, c .acting4 .e
 
 returns-5 : tie.Need-returns-5
 unfolding effectOf
-returns-5 c = rw (c .before .before .before .before .before .v2 .given .1, c .acting5 .ensures, c .before .bound-in .ensures, c .before .before .next2 .ensures)
+returns-5 c =
+    let at-bound-in = c .before in
+    let at-next2 = at-bound-in .before in
+    let known = at-next2 .before .before .before in
+    rw (known .v2 .given .1, c .acting5 .ensures, at-bound-in .bound-in .ensures, at-next2 .next2 .ensures)
 
 returns-6 : tie.Need-returns-6
 unfolding effectOf
@@ -44,18 +47,27 @@ returns-8 c = rw (c .before .before .v4 .given .1, c .accepting .ensures)
 
 returns-9 : tie.Need-returns-9
 unfolding effectOf
-returns-9 c = rw (c .before .before .before .before .v5 .given .1, c .acting8 .ensures, c .before .ok4 .ensures, c .before .before .less .ensures)
+returns-9 c =
+    let at-ok4 = c .before in
+    let at-less = at-ok4 .before in
+    let known = at-less .before .before in
+    rw (known .v5 .given .1, c .acting8 .ensures, at-ok4 .ok4 .ensures, at-less .less .ensures)
 
 returns-10 : tie.Need-returns-10
 unfolding effectOf
 returns-10 c =
+    let at-ok5 = c .before in
+    let at-is-joined = at-ok5 .before in
+    let at-onward4 = at-is-joined .before in
+    let at-no-number = at-onward4 .before in
+    let known = at-no-number .before .before in
     rw (
-      c .before .before .before .before .before .before .v6 .given .1,
+      known .v6 .given .1,
       c .acting9 .ensures,
-      c .before .ok5 .ensures,
-      c .before .before .is-joined .ensures,
-      c .before .before .before .onward4 .ensures,
-      c .before .before .before .before .no-number .ensures,
+      at-ok5 .ok5 .ensures,
+      at-is-joined .is-joined .ensures,
+      at-onward4 .onward4 .ensures,
+      at-no-number .no-number .ensures,
     )
 
 returns-11 : tie.Need-returns-11

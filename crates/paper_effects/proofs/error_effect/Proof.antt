@@ -1,3 +1,4 @@
+-- The error is that of the rule, and the effect has nothing in it but the ERROR_ACK.
 use borrow.Author.Needs.{needs}
 use Rattle.paper_effects.proofs.error_effect.Statement.{statement}
 use Rattle.paper_effects.proofs.error_effect.Tie as tie

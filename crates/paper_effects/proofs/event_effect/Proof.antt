@@ -1,3 +1,4 @@
+-- Each event has its own effect, made of the parts that the paper names.
 use Rattle.paper.specs.Effects.{eventEffect}
 use borrow.Author.Needs.{needs}
 use Rattle.paper_effects.proofs.event_effect.Statement.{statement}
@@ -14,12 +15,16 @@ returns-2 c = rw (c .before .before .enum-told .given .1, c .acting2 .ensures, c
 returns-3 : tie.Need-returns-3
 unfolding eventEffect
 returns-3 c =
+    let at-onward2 = c .before in
+    let at-no-number = at-onward2 .before in
+    let at-state-number = at-no-number .before in
+    let known = at-state-number .before .before in
     rw (
-      c .before .before .before .before .before .event2 .given .1,
+      known .event2 .given .1,
       c .acting3 .ensures,
-      c .before .onward2 .ensures,
-      c .before .before .no-number .ensures,
-      c .before .before .before .state-number .ensures,
+      at-onward2 .onward2 .ensures,
+      at-no-number .no-number .ensures,
+      at-state-number .state-number .ensures,
     )
 
 returns-4 : tie.Need-returns-4

@@ -1,3 +1,4 @@
+-- The stream settles in the row's next state; the state for the last number goes along.
 use borrow.Author.Needs.{needs}
 use Rattle.paper_effects.proofs.less.Statement.{statement}
 use Rattle.paper_effects.proofs.less.Tie as tie

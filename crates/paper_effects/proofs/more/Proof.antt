@@ -1,3 +1,4 @@
+-- The stream settles in the row's next state, with the number that it takes.
 use borrow.Author.Needs.{needs}
 use Rattle.paper_effects.proofs.more.Statement.{statement}
 use Rattle.paper_effects.proofs.more.Tie as tie

@@ -1,3 +1,4 @@
+-- The stream settles in the row's next state.
 use borrow.Author.Needs.{needs}
 use Rattle.paper_effects.proofs.onward.Statement.{statement}
 use Rattle.paper_effects.proofs.onward.Tie as tie

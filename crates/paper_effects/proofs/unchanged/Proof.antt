@@ -1,3 +1,4 @@
+-- A row that leads to its own state changes nothing; any other settles the stream in its next.
 use borrow.Author.Tests.{eq-eqb, ne-eqb}
 use borrow.Author.Needs.{needs}
 use Rattle.paper_effects.proofs.unchanged.Statement.{statement}

@@ -44,7 +44,15 @@ returns-13 : tie.Need-returns-13
 returns-13 c = simp (c .before .enum-told9 .given .1, c .match2 .keys4)
 
 returns-14 : tie.Need-returns-14
-returns-14 c = simp (c .before .enum-told9 .given .1, differs 8 _ (c .match2 .rest .0 .0 .0 .1), differs 9 _ (c .match2 .rest .0 .0 .1), differs 11 _ (c .match2 .rest .0 .1), differs 12 _ (c .match2 .rest .1))
+returns-14 c =
+    let known = c .before in
+    simp (
+      known .enum-told9 .given .1,
+      differs 8 _ (c .match2 .rest .0 .0 .0 .1),
+      differs 9 _ (c .match2 .rest .0 .0 .1),
+      differs 11 _ (c .match2 .rest .0 .1),
+      differs 12 _ (c .match2 .rest .1),
+    )
 
 returns-15 : tie.Need-returns-15
 returns-15 c = simp (c .enum-told10 .given .1)

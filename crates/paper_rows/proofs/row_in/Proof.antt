@@ -1,3 +1,4 @@
+-- A list of one row is found by the test of that row.
 use borrow.Author.Tests.{eq-eqb, ne-eqb}
 use mathlib.Core.Path.{refl}
 use Rattle.paper_rows.proofs.row_in.Statement.{statement}

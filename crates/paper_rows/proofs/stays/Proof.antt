@@ -1,3 +1,4 @@
+-- For each state the rows that stay come down to those of its seats, and the course is the one of them that can be meant.
 use borrow.Author.Tests.{eq-eqb}
 use mathlib.Core.Path.{refl}
 use Rattle.paper_rows.proofs.stays.Statement.{statement}

@@ -1,4 +1,4 @@
--- `replay::called` meets its contract: what the call printed is what the turn counts.
+-- The turn counts what the call printed: where its text ends, and whether it was refused.
 use mathlib.Core.Path.{_∙_}
 use denote.Ref.{now}
 use borrow.Author.Needs.{needs}
@@ -8,12 +8,18 @@ use Rattle.replay.proofs.called.Tie as tie
 
 returns : tie.Need-returns
 returns c =
-    let a = c .before .before .before .before .before .before .before .before .before .before .before .before .before .args in
-    let told = c .before .before .before .before .before .replay-call .ensures in
-    let after = c .after-call .ensures in (
-      (after .0 ∙ (λ i. afterCall (now (a .input)) (told .1 .1 .0 .0 i) (told .1 .1 .1 i) (a .t)), after .1),
-      (told .0, told .1 .0),
-    )
+    let made = c .before .before .before .before .before in
+    let lent = made .before .before .before .before in
+    let a = lent .before .before .before .before .args in
+    let told = made .replay-call .ensures in
+    let after = c .after-call .ensures in
+    record {
+      is = after .is ∙ (λ i. afterCall (now (a .input)) (told .wrote .ends i) (told .told i) (a .t));
+      fine = after .fine;
+      image = told .image;
+      sound = told .sound;
+      stands = told .wrote .stands;
+    }
 
 pub called-spec : {M : Type 1} → statement M
 called-spec =

@@ -1,4 +1,4 @@
--- `replay::main` starts from a sound table.
+-- A fresh table is sound, and the first line fits the output, so the turns may begin.
 use mathlib.Core.Path.{ap, _∙_}
 use borrow.Author.Needs.{needs}
 use Rattle.table_image.specs.Layout.{soundImage}
@@ -7,7 +7,15 @@ use Rattle.replay.proofs.main.Statement.{statement}
 use Rattle.replay.proofs.main.Tie as tie
 
 run-requires : tie.Need-run-requires
-run-requires c κs = (ap soundImage (c .before .before .before .before .before .before .before .before .before .before .make-fresh .ensures) ∙ fresh-image, search needs, search needs, search needs)
+run-requires c κs =
+    let titled = c .before .before .before .before .before in
+    let fresh = titled .before .before .before .before .before in
+    record {
+      sound = ap soundImage (fresh .make-fresh .ensures) ∙ fresh-image;
+      reads = search needs;
+      prints = search needs;
+      fine = search needs;
+    }
 
 pub main-spec : {M : Type 1} → statement M
 main-spec =

@@ -1,17 +1,23 @@
--- `replay::run` meets its contract: each turn leaves what the next one asks, and one fewer is left.
+-- Each turn leaves what the next one asks, and one fewer is left.
 use native.Mathlib.Omega.{arith}
 use mathlib.Core.Path.{_≡_}
-use mathlib.Core.Bool.{true}
+use mathlib.Core.List.{List}
+use Prim.Native.Nat.{ℕ}
 use lib.ListN.{length}
 use borrow.Author.Needs.{needs}
-use Rattle.table_image.specs.Layout.{soundImage}
-use Rattle.turns.specs.Turns.{Fine}
+use Rattle.turns.specs.declared.Turn.{Turn}
+use Rattle.replay.specs.Printed.{Kept}
 use Rattle.replay.proofs.run.Statement.{statement}
 use Rattle.replay.proofs.run.Tie as tie
 
+record Turning (table₀ input₀ output₀ table input output : List ℕ) (t : Turn) : Type 0 where
+  kept : Kept table t
+  image : length table ≡ length table₀
+  reads : length input ≡ length input₀
+  prints : length output ≡ length output₀
+
 abbrev Inv-loop : tie.InvT-loop
-Inv-loop table₀ input₀ output₀ t₀ left₀ table input output t left =
-    Fine t × (soundImage table ≡ true) × (length table ≡ length table₀) × (length input ≡ length input₀) × (length output ≡ length output₀)
+Inv-loop table₀ input₀ output₀ t₀ left₀ table input output t left = Turning table₀ input₀ output₀ table input output t
 
 abbrev μ-loop : tie.MeasureT-loop
 μ-loop table₀ input₀ output₀ t₀ left₀ table input output t left = left

@@ -1,4 +1,4 @@
--- `replay_transcript::shown` meets its contract.
+-- The kind is the first byte, so the test of the code is that of the definition, and each way takes the same part of the record.
 use native.Mathlib.Omega.{arith}
 use borrow.Author.Needs.{needs}
 use Rattle.ledger.specs.Choice.{_⇒_∣_}

@@ -1,4 +1,4 @@
--- `replay_transcript::start_of` meets its contract.
+-- A run from the start of a room that is cut at the room's end is what `take` gives.
 use Prim.Native.Nat.{_-_}
 use native.Mathlib.Omega.{arith}
 use mathlib.Core.Path.{sym, _∙_}

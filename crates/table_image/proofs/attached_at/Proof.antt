@@ -1,10 +1,10 @@
--- `table_image::attached_at` meets its contract: the bytes of a slot are bytes of the image.
+-- The bytes of a slot are bytes of the image, so the PPA's number is read where the layout has it.
 use Prim.Native.Nat.{ℕ, _+_}
 use mathlib.Core.Path.{refl, sym, ap, _∙_}
 use native.Mathlib.Omega.{arith}
 use denote.Ref.{now}
-use Rattle.paper.specs.Base.{Slot}
-use Rattle.table_image.specs.Layout.{slotBase, streamFrom, slotAt}
+use Rattle.paper.specs.Base.{Slot, stream}
+use Rattle.table_image.specs.Layout.{slotBase, streamFrom, slotAt, attachedOffset, slotSize}
 use Rattle.table_image.proofs.TableBack.{slot-at}
 use borrow.Author.Needs.{needs}
 use Rattle.table_image.proofs.attached_at.Statement.{statement}
@@ -17,7 +17,9 @@ returns c =
     let a = c .before .before in
     let img = now (a .args .img) in
     let i = a .args .i in
-    ap (λ (n : ℕ). record { 0 = n }) (c .number32-inside .ensures ∙ sym (ap (λ (x : Slot). x .stream .ppa .0) (slot-at img i (a .pre .0)) ∙ part-be32 img (slotBase i) 42 4 (slotBase i + 4) (omega arith) refl))
+    let number = part-be32 img (slotBase i) slotSize attachedOffset (slotBase i + attachedOffset) (omega arith) refl in
+    ap (λ (n : ℕ). record { 0 = n })
+    (c .number32-inside .ensures ∙ sym (ap (λ (x : Slot). x .stream .ppa .0) (slot-at img i (a .pre .within)) ∙ number))
 
 pub attached-at-spec : {M : Type 1} → statement M
 attached-at-spec =

@@ -1,13 +1,13 @@
-use Prim.Native.Nat.{_+_, _*_}
+-- The count of the open numbers stands before them in the slot.
+use Prim.Native.Nat.{_+_}
 use mathlib.Core.Path.{refl, sym, ap, _∙_}
 use native.Mathlib.Omega.{arith}
 use denote.Ref.{now}
 use lib.ListN.{length, getD}
 use Rattle.octets.specs.Numbers.{be32At}
-use Rattle.octets.specs.Runs.{part}
 use Rattle.octets.proofs.Runs.{part-byte}
-use Rattle.paper.specs.Base.{Slot}
-use Rattle.table_image.specs.Layout.{slotBase, waitingFrom, slotAt}
+use Rattle.paper.specs.Base.{Slot, waiting}
+use Rattle.table_image.specs.Layout.{slotBase, waitingFrom, slotAt, countOffset, slotSize, numberBase, slotPart}
 use Rattle.table_image.proofs.TableBack.{slot-at}
 use borrow.Author.Needs.{needs}
 use Rattle.table_image.proofs.count_at.Statement.{statement}
@@ -20,7 +20,11 @@ returns c =
     let a = c .before in
     let img = now (a .args .img) in
     let i = a .args .i in
-    sym (ap (λ (x : Slot). length (x .waiting)) (slot-at img i (a .pre .0)) ∙ listed-length (λ k. be32At (part img (slotBase i) 42) (k * 4 + 10)) 0 (getD (part img (slotBase i) 42) 9 0) ∙ part-byte img (slotBase i) 42 9 (slotBase i + 9) (omega arith) refl)
+    let bytes = slotPart img i in
+    let byte = part-byte img (slotBase i) slotSize countOffset (slotBase i + countOffset) (omega arith) refl in
+    sym (ap (λ (x : Slot). length (x .waiting)) (slot-at img i (a .pre .within))
+    ∙ listed-length (λ k. be32At bytes (numberBase k)) 0 (getD bytes countOffset 0)
+    ∙ byte)
 
 pub count-at-spec : {M : Type 1} → statement M
 count-at-spec =

@@ -1,4 +1,4 @@
--- `table_image::counter` meets its contract: it is read where the layout has it.
+-- The counter is read where the layout has it.
 use Rattle.table_image.specs.Layout.{tableOf}
 use borrow.Author.Needs.{needs}
 use Rattle.table_image.proofs.counter.Statement.{statement}

@@ -1,3 +1,4 @@
+-- A bit of the mask is 1 for each closed stream, so the ones count them.
 use mathlib.Core.Path.{ap, _∙_}
 use denote.Ref.{now}
 use lib.Count.{ones}
@@ -12,7 +13,7 @@ returns : tie.Need-returns
 returns c =
     let a = c .before .before in
     let img = now (a .args .img) in
-    ap ones (c .mask-in .ensures ∙ mask-lent img (a .pre .1)) ∙ free-total (tableOf img .slots)
+    ap ones (c .mask-in .ensures ∙ mask-lent img (a .pre)) ∙ free-total (tableOf img .slots)
 
 pub free-total-spec : {M : Type 1} → statement M
 free-total-spec = tie.close (tie.spec (λ c κs. search needs) returns)

@@ -1,9 +1,10 @@
+-- The bytes of a slot are bytes of the image, so the count granted is read where the layout has it.
 use Prim.Native.Nat.{_+_}
 use mathlib.Core.Path.{refl, sym, ap, _∙_}
 use native.Mathlib.Omega.{arith}
 use denote.Ref.{now}
-use Rattle.paper.specs.Base.{Slot}
-use Rattle.table_image.specs.Layout.{slotBase, streamFrom, slotAt}
+use Rattle.paper.specs.Base.{Slot, stream}
+use Rattle.table_image.specs.Layout.{slotBase, streamFrom, slotAt, grantedOffset, slotSize}
 use Rattle.table_image.proofs.TableBack.{slot-at}
 use borrow.Author.Needs.{needs}
 use Rattle.table_image.proofs.granted_at.Statement.{statement}
@@ -16,7 +17,7 @@ returns c =
     let a = c .before in
     let img = now (a .args .img) in
     let i = a .args .i in
-    sym (ap (λ (x : Slot). x .stream .granted) (slot-at img i (a .pre .0)) ∙ part-byte img (slotBase i) 42 8 (slotBase i + 8) (omega arith) refl)
+    sym (ap (λ (x : Slot). x .stream .granted) (slot-at img i (a .pre .within)) ∙ part-byte img (slotBase i) slotSize grantedOffset (slotBase i + grantedOffset) (omega arith) refl)
 
 pub granted-at-spec : {M : Type 1} → statement M
 granted-at-spec =

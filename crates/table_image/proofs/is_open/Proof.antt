@@ -1,3 +1,4 @@
+-- A stream is open exactly if its bit of the mask is 0, and past the table's end none is.
 use Prim.Native.Nat.{ℕ}
 use mathlib.Core.Path.{sym, ap, _∙_}
 use denote.Ref.{now}

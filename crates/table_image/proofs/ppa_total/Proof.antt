@@ -1,3 +1,4 @@
+-- There are as many PPAs as the byte before them tells.
 use mathlib.Core.Path.{sym}
 use denote.Ref.{now}
 use lib.ListN.{getD}

@@ -1,3 +1,4 @@
+-- The table remembers an opening exactly if its byte is 1.
 use mathlib.Core.Path.{refl}
 use Rattle.table_image.specs.Layout.{tableOf}
 use borrow.Author.Needs.{needs}

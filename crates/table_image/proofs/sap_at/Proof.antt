@@ -1,10 +1,10 @@
--- `table_image::sap_at` meets its contract: the bytes of a slot are bytes of the image.
+-- The bytes of a slot are bytes of the image, so the SAP is read where the layout has it.
 use Prim.Native.Nat.{_+_}
 use mathlib.Core.Path.{refl, sym, ap, _∙_}
 use native.Mathlib.Omega.{arith}
 use denote.Ref.{now}
-use Rattle.paper.specs.Base.{Slot}
-use Rattle.table_image.specs.Layout.{slotBase, streamFrom, slotAt}
+use Rattle.paper.specs.Base.{Slot, stream}
+use Rattle.table_image.specs.Layout.{slotBase, streamFrom, slotAt, sapOffset, slotSize}
 use Rattle.table_image.proofs.TableBack.{slot-at}
 use borrow.Author.Needs.{needs}
 use Rattle.table_image.proofs.sap_at.Statement.{statement}
@@ -17,7 +17,7 @@ returns c =
     let a = c .before .before in
     let img = now (a .args .img) in
     let i = a .args .i in
-    c .number16-inside .ensures ∙ sym (ap (λ (x : Slot). x .stream .sap) (slot-at img i (a .pre .0)) ∙ part-be16 img (slotBase i) 42 2 (slotBase i + 2) (omega arith) refl)
+    c .number16-inside .ensures ∙ sym (ap (λ (x : Slot). x .stream .sap) (slot-at img i (a .pre .within)) ∙ part-be16 img (slotBase i) slotSize sapOffset (slotBase i + sapOffset) (omega arith) refl)
 
 pub sap-at-spec : {M : Type 1} → statement M
 sap-at-spec =

@@ -1,3 +1,4 @@
+-- The stream's bytes go over those of its slot, and its open numbers stay behind them.
 use Prim.Native.Nat.{ℕ}
 use mathlib.Core.Path.{sym, ap₂, _∙_}
 use mathlib.Core.List.{List}
@@ -11,12 +12,14 @@ use Rattle.table_image.proofs.store_stream.Tie as tie
 
 returns : tie.Need-returns
 returns c =
-    let a = c .before .before .before .before .before .before .before in
+    let at-put-bytes = c .before .before in
+    let at-stream-bytes = at-put-bytes .before .before .before in
+    let a = at-stream-bytes .before .before in
     let i = a .args .i in
-    let l = a .pre .2 in
-    c .before .before .put-bytes .ensures
-    ∙ ap₂ (λ (img s : List ℕ). paste img (slotBase i) s) (sym (l .same)) (c .before .before .before .before .before .stream-bytes .ensures)
-    ∙ store-stream (tableOf (now (a .args .img))) (l .shaped) i (a .pre .0) (a .args .s)
+    let l = a .pre .lent in
+    at-put-bytes .put-bytes .ensures
+    ∙ ap₂ (λ (img s : List ℕ). paste img (slotBase i) s) (sym (l .same)) (at-stream-bytes .stream-bytes .ensures)
+    ∙ store-stream (tableOf (now (a .args .img))) (l .shaped) i (a .pre .within) (a .args .s)
 
 pub store-stream-spec : {M : Type 1} → statement M
 store-stream-spec =

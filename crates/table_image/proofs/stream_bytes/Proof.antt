@@ -1,3 +1,4 @@
+-- The bytes stand in the order of the layout, the top byte of a number first.
 use Rattle.table_image.specs.Layout.{streamBytes}
 use borrow.Author.Needs.{needs}
 use Rattle.table_image.proofs.stream_bytes.Statement.{statement}

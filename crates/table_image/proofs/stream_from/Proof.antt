@@ -1,4 +1,4 @@
--- `table_image::stream_from` meets its contract: each field is read where the layout has it.
+-- Each field is read where the layout has it.
 use Rattle.table_image.specs.Layout.{streamFrom}
 use borrow.Author.Needs.{needs}
 use Rattle.table_image.proofs.stream_from.Statement.{statement}

@@ -1,3 +1,4 @@
+-- The tests are the definition's, in its order: itself, then one that is open; an open stream is one of the table.
 use native.Mathlib.Omega.{arith}
 use mathlib.Core.Path.{sym, _∙_}
 use denote.Ref.{now}
@@ -25,15 +26,20 @@ sub-j c =
 load-stream-requires : tie.Need-load-stream-requires
 load-stream-requires c κs =
     let a = c .before .before .before .before .before .before in
-    (open-within (tableOf (now (a .args .img))) (a .pre .1 .shaped) _ (sym (c .before .is-open .ensures) ∙ c .if2 .taken), a .pre .0)
+    record {
+      within = open-within (tableOf (now (a .args .img))) (a .pre .shaped) _ (sym (c .before .is-open .ensures) ∙ c .if2 .taken);
+      held = a .pre .held;
+    }
 
 cast-t8 : tie.Need-cast-t8
-cast-t8 c = omega (arith, load-stream-requires c (c .before .before .before .before .before .before .κs) .0)
+cast-t8 c = omega (arith, load-stream-requires c (c .before .before .before .before .before .before .κs) .within)
 
 returns-2 : tie.Need-returns-2
 unfolding carrierOf _⇒_∣_
 returns-2 c =
-    rw (← c .before .before .before .before .before .means-itself .ensures, c .before .before .before .before .if1 .left, ← c .before .before .is-open .ensures, c .before .if2 .taken, c .load-stream .ensures)
+    let opened = c .before in
+    let another = opened .before .before .before in
+    rw (← another .before .means-itself .ensures, another .if1 .left, ← opened .before .is-open .ensures, opened .if2 .taken, c .load-stream .ensures)
 
 returns-3 : tie.Need-returns-3
 unfolding carrierOf _⇒_∣_

@@ -1,3 +1,4 @@
+-- Somebody listens exactly if the listener is one of the table's streams.
 use borrow.Author.Needs.{needs}
 use Rattle.paper.specs.Saps.{isListenedFor}
 use Rattle.table_lookup.proofs.is_listened_for.Statement.{statement}

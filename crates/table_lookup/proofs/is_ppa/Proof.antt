@@ -1,4 +1,4 @@
--- `table_lookup::is_ppa` meets its contract: the first four bytes of a place are its number.
+-- The first four bytes of a place are its number.
 use native.Mathlib.Nat.{add-sub-cancel-left}
 use denote.Ref.{now}
 use borrow.Author.Needs.{needs}
@@ -11,7 +11,7 @@ returns : tie.Need-returns
 unfolding ppaAt ppaFrom
 returns c =
     let a = c .before .before .before .before in
-    rw (c .before .number32-inside .ensures, add-sub-cancel-left, ppa-place (now (a .args .img)) (a .args .k) (a .pre .0))
+    rw (c .before .number32-inside .ensures, add-sub-cancel-left, ppa-place (now (a .args .img)) (a .args .k) (a .pre .placed))
 
 pub is-ppa-spec : {M : Type 1} → statement M
 is-ppa-spec =

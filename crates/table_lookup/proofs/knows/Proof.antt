@@ -1,3 +1,4 @@
+-- A PPA is known exactly if its place is before the count.
 use Prim.Native.Nat.{ℕ}
 use denote.Ref.{now}
 use mathlib.Core.Path.{sym}

@@ -1,4 +1,4 @@
--- `table_lookup::listens_at` meets its contract: the three tests, that of the SAP first.
+-- A stream listens where three tests pass, so any of them may be asked first: here that of the SAP.
 use native.Mathlib.Omega.{arith}
 use borrow.Author.Needs.{needs}
 use borrow.Author.Tests.{lt-ltb, eq-eqb, ne-eqb}
@@ -18,7 +18,15 @@ returns-3 : tie.Need-returns-3
 returns-3 c =
     let granted = c .before .before .before in
     let sap = granted .before .before in
-    rw (sap-first, ← sap .before .sap-at .ensures, eq-eqb _ _ (sap .if1 .left), ← granted .before .granted-at .ensures, lt-ltb 0 (granted .before .granted-at .result) (omega (arith, granted .if2 .left)), ← c .before .before .attached-at .ensures)
+    let some = lt-ltb 0 (granted .before .granted-at .result) (omega (arith, granted .if2 .left)) in
+    rw (
+      sap-first,
+      ← sap .before .sap-at .ensures,
+      eq-eqb _ _ (sap .if1 .left),
+      ← granted .before .granted-at .ensures,
+      some,
+      ← c .before .before .attached-at .ensures,
+    )
 
 pub listens-at-spec : {M : Type 1} → statement M
 listens-at-spec =

@@ -1,3 +1,4 @@
+-- The MAC is that of the PPA found; past them all stand zeros.
 use Prim.Native.Nat.{_≤_}
 use native.Mathlib.Omega.{arith}
 use mathlib.Core.Path.{sym, ap}

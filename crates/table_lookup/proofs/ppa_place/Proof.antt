@@ -1,4 +1,4 @@
--- `table_lookup::ppa_place` meets its contract: no PPA before place i has the number.
+-- No PPA before place i has the number.
 use Prim.Native.Nat.{_≤_, _-_}
 use native.Mathlib.Omega.{arith}
 use mathlib.Core.Path.{sym, _∙_}

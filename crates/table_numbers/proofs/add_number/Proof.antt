@@ -1,3 +1,4 @@
+-- The slot is written with the stream's bytes and those with one number more.
 use native.Mathlib.Omega.{arith}
 use mathlib.Core.List.{[], _∷_, _++_}
 use lib.ListN.{length-append}
@@ -11,12 +12,14 @@ use Rattle.table_numbers.proofs.add_number.Tie as tie
 
 returns : tie.Need-returns
 returns c =
-    let s = c .before .before .before .before .before .before .before in
+    let at-put-slot = c .before .before in
+    let at-one-number-more = at-put-slot .before .before in
+    let s = at-one-number-more .before .before .before in
     let a = s .args in
     let w = waiting (tableOf (now (a .img))) (a .i) in
     let n = a .n .0 ∷ [] in
-    rw (c .before .before .put-slot .ensures, c .before .before .before .before .one-number-more .ensures)
-    (numbers-stored (now (a .img)) (s .pre .2) (a .i) (s .pre .0) (a .s) (w ++ n) (omega (arith, length-append w n)))
+    rw (at-put-slot .put-slot .ensures, at-one-number-more .one-number-more .ensures)
+    (numbers-stored (now (a .img)) (s .pre .at .lent) (a .i) (s .pre .at .within) (a .s) (w ++ n) (omega (arith, length-append w n)))
 
 pub add-number-spec : {M : Type 1} → statement M
 add-number-spec = tie.close (tie.spec (λ c κs. search needs) (λ c κs. search needs) (λ c. search needs) returns)

@@ -1,4 +1,4 @@
--- `table_numbers::copy_numbers` meets its contract: after k turns the first k numbers of the stream stand over dst from the place on.
+-- After k turns the first k numbers of the stream stand over dst from the place on.
 use Prim.Native.Nat.{_≤_, _<_, _-_}
 use native.Mathlib.Omega.{arith}
 use native.Mathlib.Numerals.{add-one}

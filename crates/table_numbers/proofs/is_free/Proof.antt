@@ -1,3 +1,4 @@
+-- The two tests of the definition, in their order.
 use borrow.Author.Tests.{lt-ltb, le-ltb}
 use borrow.Author.Needs.{needs}
 use Rattle.table_numbers.proofs.is_free.Statement.{statement}

@@ -1,3 +1,4 @@
+-- A number is open exactly if its place is before the count.
 use mathlib.Core.Path.{sym}
 use borrow.Author.Needs.{needs}
 use denote.Ref.{now}

@@ -1,4 +1,4 @@
--- `table_numbers::next_number` meets its contract: what is left to try gives the answer.
+-- What is left to try, from the number that is tried, gives the answer.
 use Prim.Native.Nat.{ℕ, _≤_, _-_}
 use native.Mathlib.Omega.{arith}
 use mathlib.Core.Path.{_≡_, sym, ap, _∙_}
@@ -6,20 +6,20 @@ use borrow.Author.Needs.{needs}
 use denote.Ref.{now}
 use Rattle.ledger.specs.Tally.{nextFrom}
 use Rattle.ledger.proofs.Found.{next-here, next-on}
-use Rattle.paper.specs.Correlations.{occurrences, nextNumber}
+use Rattle.paper.specs.Correlations.{occurrences, nextNumber, mostPassed}
 use Rattle.table_image.specs.Layout.{tableOf}
 use Rattle.table_numbers.proofs.next_number.Statement.{statement}
 use Rattle.table_numbers.proofs.next_number.Tie as tie
 
 abbrev Inv-loop : tie.InvT-loop
-Inv-loop img n₀ left₀ n left = (left ≤ 129) × (nextNumber (tableOf img) ≡ nextFrom left (occurrences (tableOf img)) n)
+Inv-loop img n₀ left₀ n left = (left ≤ mostPassed) × (nextNumber (tableOf img) ≡ nextFrom left (occurrences (tableOf img)) n)
 
 abbrev μ-loop : tie.MeasureT-loop
 μ-loop img n₀ left₀ n left = left
 
 loop-holds : tie.Need-loop-holds Inv-loop μ-loop
 unfolding nextNumber
-loop-holds c = (search needs, ap (nextFrom 129 (occurrences (tableOf (now (c .before .before .args .img))))) (sym (c .counter .ensures)))
+loop-holds c = (search needs, ap (nextFrom mostPassed (occurrences (tableOf (now (c .before .before .args .img))))) (sym (c .counter .ensures)))
 
 returns : tie.Need-returns Inv-loop μ-loop
 returns c =
@@ -29,11 +29,15 @@ returns c =
 
 loop-again : tie.Need-loop-again Inv-loop μ-loop
 loop-again c =
-    let l = c .before .before .before .before .loop in
-    let t = tableOf (now (c .before .before .before .before .before .before .before .args .img)) in (
+    let at-if1 = c .before in
+    let at-is-free = at-if1 .before in
+    let turn = at-is-free .before .before in
+    let start = turn .before .before .before in
+    let l = turn .loop in
+    let t = tableOf (now (start .args .img)) in (
       omega arith,
       l .inv .1
-          ∙ next-on (occurrences t) (l .left) (l .n) (omega arith) (sym (c .before .before .is-free .ensures) ∙ c .before .if1 .left)
+          ∙ next-on (occurrences t) (l .left) (l .n) (omega arith) (sym (at-is-free .is-free .ensures) ∙ at-if1 .if1 .left)
           ∙ ap (nextFrom (l .left - 1) (occurrences t)) (sym (c .wrapping-add-u32 .ensures)),
     )
 

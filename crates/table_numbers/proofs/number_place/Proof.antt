@@ -1,4 +1,4 @@
--- `table_numbers::number_place` meets its contract: no open number before place k is the one sought.
+-- No open number before place k is the one sought.
 use Prim.Native.Nat.{_≤_, _-_}
 use native.Mathlib.Omega.{arith}
 use mathlib.Core.Path.{sym, ap, _∙_}

@@ -1,4 +1,4 @@
--- `table_numbers::occurs_on` meets its contract: after k turns the first k places are counted.
+-- After k turns the first k places are counted.
 use Prim.Native.Nat.{_+_, _≤_, _-_}
 use native.Mathlib.Omega.{arith}
 use native.Mathlib.Numerals.{add-one}
@@ -31,7 +31,7 @@ add-total : tie.Need-add-total Inv-loop μ-loop
 add-total c =
     let l = c .before .before .before .before in
     let s = l .before .before .before in
-    omega (arith, l .loop .inv .1, s .pre .2 .shaped .eight (s .args .i), occ-length (s .args .n) (waiting (tableOf (now (s .args .img))) (s .args .i)))
+    omega (arith, l .loop .inv .1, s .pre .lent .shaped .eight (s .args .i), occ-length (s .args .n) (waiting (tableOf (now (s .args .img))) (s .args .i)))
 
 loop-again : tie.Need-loop-again Inv-loop μ-loop
 loop-again c =

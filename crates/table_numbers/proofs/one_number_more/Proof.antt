@@ -1,4 +1,4 @@
--- `table_numbers::one_number_more` meets its contract: the number goes over the first zeros.
+-- The number goes over the first zeros.
 use borrow.Author.Needs.{needs}
 use denote.Ref.{now}
 use Rattle.paper.specs.Base.{waiting}
@@ -12,7 +12,7 @@ returns c =
     let s = c .before .before .before .before .before .before in
     let a = s .args in
     let w = waiting (tableOf (now (a .img))) (a .i) in
-    rw (c .before .put-number32 .ensures, c .before .before .before .numbers-of .ensures, c .before .before .before .before .count-at .ensures) (more-bytes w (a .n) (s .pre .3))
+    rw (c .before .put-number32 .ensures, c .before .before .before .numbers-of .ensures, c .before .before .before .before .count-at .ensures) (more-bytes w (a .n) (s .pre .place))
 
 pub one-number-more-spec : {M : Type 1} → statement M
 one-number-more-spec =

@@ -1,4 +1,4 @@
--- `table_numbers::remaining` meets its contract: one number fewer where it is open.
+-- Where the number is open one fewer stays, and else all do.
 use Prim.Native.Nat.{suc, ℕ}
 use native.Mathlib.Omega.{arith}
 use mathlib.Core.Bool.{true}

@@ -1,3 +1,4 @@
+-- Where the number is open the slot is written without it; where it is not, without it is as it was.
 use Prim.Native.Nat.{_<_, _≤_}
 use native.Mathlib.Omega.{arith}
 use mathlib.Core.Path.{_∙_}
@@ -17,23 +18,31 @@ use Rattle.table_numbers.proofs.remove_number.Tie as tie
 
 returns : tie.Need-returns
 returns c =
-    let s = c .before .before .before .before .before .before .before .before .before .before .before .before in
+    let at-put-slot = c .before .before in
+    let at-one-number-less = at-put-slot .before .before in
+    let at-number-place = at-one-number-less .before .before .before in
+    let at-count-at = at-number-place .before .before in
+    let s = at-count-at .before .before .before in
     let a = s .args in
     let w = waiting (tableOf (now (a .img))) (a .i) in
     let n = a .n .0 in
-    let p = c .before .before .before .before .before .before .before .number-place .ensures in
-    let h : firstOf (eqb n) w < length w = omega (arith, p, c .before .before .before .before .before .before .before .before .before .count-at .ensures) in
-    rw (c .before .before .put-slot .ensures, c .before .before .before .before .one-number-less .ensures, p, ← without-first n w h)
-    (numbers-stored (now (a .img)) (s .pre .2) (a .i) (s .pre .0) (a .s) (without n w) (omega (arith, length-without-le n w, s .pre .2 .shaped .eight (a .i))))
+    let p = at-number-place .number-place .ensures in
+    let h : firstOf (eqb n) w < length w = omega (arith, p, at-count-at .count-at .ensures) in
+    rw (at-put-slot .put-slot .ensures, at-one-number-less .one-number-less .ensures, p, ← without-first n w h)
+    (numbers-stored (now (a .img)) (s .pre .lent) (a .i) (s .pre .within) (a .s) (without n w) (omega (arith, length-without-le n w, s .pre .lent .shaped .eight (a .i))))
 
 returns-2 : tie.Need-returns-2
 unfolding withStream
 returns-2 c =
-    let a = c .before .before .before .before .before .before .before .before .before .before .args in
+    let at-store-stream = c .before .before in
+    let at-number-place = at-store-stream .before .before .before in
+    let at-count-at = at-number-place .before .before in
+    let start = at-count-at .before .before .before in
+    let a = start .args in
     let w = waiting (tableOf (now (a .img))) (a .i) in
     let n = a .n .0 in
-    let h : length w ≤ firstOf (eqb n) w = omega (arith, c .before .before .before .before .before .number-place .ensures, c .before .before .before .before .before .before .before .count-at .ensures) in
-    rw (c .before .before .store-stream .ensures, without-none n w (has-first n w ∙ le-ltb _ _ h))
+    let h : length w ≤ firstOf (eqb n) w = omega (arith, at-number-place .number-place .ensures, at-count-at .count-at .ensures) in
+    rw (at-store-stream .store-stream .ensures, without-none n w (has-first n w ∙ le-ltb _ _ h))
 
 pub remove-number-spec : {M : Type 1} → statement M
 remove-number-spec =

@@ -1,4 +1,4 @@
--- `table_soundness::are_numbers_single` meets its contract: the numbers that are copied are those that are open.
+-- The numbers that are copied are those that are open.
 use native.Mathlib.Nat.{sub-zero}
 use mathlib.Core.Path.{ap}
 use borrow.Author.Needs.{needs}
@@ -7,7 +7,7 @@ use Rattle.table_soundness.proofs.are_numbers_single.Statement.{stateme
 use Rattle.table_soundness.proofs.are_numbers_single.Tie as tie
 
 returns : tie.Need-returns
-returns c = rw (c .are-single .ensures, sub-zero) (ap areSingle (c .before .before .before .before .open-numbers .ensures .1))
+returns c = rw (c .are-single .ensures, sub-zero) (ap areSingle (c .before .before .before .before .open-numbers .ensures .first))
 
 pub are-numbers-single-spec : {M : Type 1} → statement M
 are-numbers-single-spec =

@@ -1,4 +1,4 @@
--- `table_soundness::are_single` meets its contract: after k turns the first k numbers have passed.
+-- After k turns the first k numbers have passed.
 use Prim.Native.Nat.{_-_}
 use mathlib.Core.Path.{sym}
 use lib.ListN.{length}

@@ -1,3 +1,4 @@
+-- A stream that listens counts among those that are counted for its PPA and SAP; one that was granted none listens for nothing.
 use Prim.Native.Nat.{ℕ}
 use mathlib.Core.Path.{_≡_, ap, ap₂, _∙_}
 use lib.Dec.{leb}

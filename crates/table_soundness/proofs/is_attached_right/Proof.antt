@@ -1,3 +1,4 @@
+-- The two tests of the definition, by the state.
 use borrow.Author.Needs.{needs}
 use borrow.Author.Tests.{eq-eqb, ne-eqb}
 use Rattle.paper.specs.Base.{knows}

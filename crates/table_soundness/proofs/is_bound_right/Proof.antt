@@ -1,3 +1,4 @@
+-- From state 6 on the binding is tested, and above 6 its mode; below, that there is none.
 use mathlib.Core.Path.{sym, _∙_}
 use borrow.Author.Needs.{needs}
 use Rattle.ledger.proofs.Tallies.{both-true, test-held, test-failed}
@@ -16,19 +17,31 @@ returns c =
 
 returns-2 : tie.Need-returns-2
 unfolding isBoundRight
-returns-2 c = rw (test-held (c .before .before .before .holds-binding .ensures) (c .before .before .if1 .left), test-failed (c .before .as-bind-allows .ensures) (c .if2 .taken))
+returns-2 c =
+    let bound = c .before .before in
+    rw (test-held (bound .before .holds-binding .ensures) (bound .if1 .left), test-failed (c .before .as-bind-allows .ensures) (c .if2 .taken))
 
 returns-3 : tie.Need-returns-3
 unfolding isBoundRight
 returns-3 c =
-    let b = c .before .before .before .before .before in
-    rw (test-held (b .before .holds-binding .ensures) (b .if1 .left), test-held (c .before .before .before .before .as-bind-allows .ensures) (c .before .before .before .if2 .left), sym (c .before .before .is-connection .ensures) ∙ c .before .if3 .taken)
+    let allowed = c .before .before .before in
+    let bound = allowed .before .before in
+    rw (
+      test-held (bound .before .holds-binding .ensures) (bound .if1 .left),
+      test-held (allowed .before .as-bind-allows .ensures) (allowed .if2 .left),
+      sym (c .before .before .is-connection .ensures) ∙ c .before .if3 .taken,
+    )
 
 returns-4 : tie.Need-returns-4
 unfolding isBoundRight
 returns-4 c =
-    let b = c .before .before .before .before in
-    rw (test-held (b .before .holds-binding .ensures) (b .if1 .left), test-held (c .before .before .before .as-bind-allows .ensures) (c .before .before .if2 .left), sym (c .before .is-connection .ensures) ∙ c .if3 .left)
+    let allowed = c .before .before in
+    let bound = allowed .before .before in
+    rw (
+      test-held (bound .before .holds-binding .ensures) (bound .if1 .left),
+      test-held (allowed .before .as-bind-allows .ensures) (allowed .if2 .left),
+      sym (c .before .is-connection .ensures) ∙ c .if3 .left,
+    )
 
 pub is-bound-right-spec : {M : Type 1} → statement M
 is-bound-right-spec =

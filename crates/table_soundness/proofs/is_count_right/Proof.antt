@@ -1,3 +1,4 @@
+-- In state 9 the count is tested from both sides, and elsewhere it is 0.
 use native.Mathlib.Omega.{arith}
 use borrow.Author.Needs.{needs}
 use borrow.Author.Tests.{lt-ltb, le-ltb, eq-eqb, ne-eqb}
@@ -12,11 +13,17 @@ returns c = simp (← c .before .number-of .ensures, ne-eqb _ _ (c .if1 .taken))
 
 returns-2 : tie.Need-returns-2
 unfolding isCountRight
-returns-2 c = simp (← c .before .before .number-of .ensures, eq-eqb _ _ (c .before .if1 .left), le-ltb 0 (c .before .before .before .args .count) (omega (arith, c .if2 .taken)))
+returns-2 c =
+    let nine = c .before in
+    let none = le-ltb 0 (nine .before .before .args .count) (omega (arith, c .if2 .taken)) in
+    simp (← nine .before .number-of .ensures, eq-eqb _ _ (nine .if1 .left), none)
 
 returns-3 : tie.Need-returns-3
 unfolding isCountRight
-returns-3 c = simp (← c .before .before .before .number-of .ensures, eq-eqb _ _ (c .before .before .if1 .left), lt-ltb 0 (c .before .before .before .before .args .count) (omega (arith, c .before .if2 .left)))
+returns-3 c =
+    let nine = c .before .before in
+    let some = lt-ltb 0 (nine .before .before .args .count) (omega (arith, c .before .if2 .left)) in
+    simp (← nine .before .number-of .ensures, eq-eqb _ _ (nine .if1 .left), some)
 
 pub is-count-right-spec : {M : Type 1} → statement M
 is-count-right-spec = tie.close (tie.spec (λ c κs. search needs) returns returns-2 returns-3)

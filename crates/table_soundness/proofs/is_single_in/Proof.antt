@@ -1,4 +1,4 @@
--- `table_soundness::is_single_in` meets its contract: the two tests in their order.
+-- The two tests in their order.
 use native.Mathlib.Omega.{arith}
 use borrow.Author.Needs.{needs}
 use borrow.Author.Tests.{lt-ltb, le-ltb}

@@ -1,3 +1,4 @@
+-- The state that a byte tells has that number exactly if the byte is the number of a state.
 use borrow.Author.Needs.{needs}
 use Rattle.table_image.specs.Layout.{isState}
 use Rattle.table_soundness.proofs.is_state.Statement.{statement}

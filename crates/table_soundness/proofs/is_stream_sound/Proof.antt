@@ -1,4 +1,4 @@
--- `table_soundness::is_stream_sound` meets its contract: the two groups of tests, in their order.
+-- The two groups of tests, in their order.
 use borrow.Author.Needs.{needs}
 use Rattle.table_soundness.specs.Groups.{isStreamSound}
 use Rattle.table_soundness.proofs.is_stream_sound.Statement.{statement}

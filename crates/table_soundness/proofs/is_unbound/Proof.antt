@@ -1,3 +1,4 @@
+-- The three tests of the definition, in their order.
 use mathlib.Core.Path.{sym, ap, _∙_}
 use mathlib.Core.Bool.{Bool, true}
 use lib.Dec.{eqb}

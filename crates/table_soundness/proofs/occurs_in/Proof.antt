@@ -1,4 +1,4 @@
--- `table_soundness::occurs_in` meets its contract: after k turns the first k numbers are counted.
+-- After k turns the first k numbers are counted.
 use Prim.Native.Nat.{ℕ, _-_, _≤_, _<_}
 use native.Mathlib.Omega.{arith}
 use mathlib.Core.Path.{sym, _∙_}
@@ -29,7 +29,7 @@ loop-again c =
     let l = c .before .before .before .loop in
     let a = c .before .before .before .before .before .args in
     let b : l .k < length (now (a .numbers)) = search needs in
-    (omega (arith, c .one-if .ensures .1, l .inv .0), sum-on 0 (now (a .numbers)) (l .k) b (is (a .n)) (l .found) (c .one-if .result) (l .inv .1) (c .one-if .ensures .0))
+    (omega (arith, c .one-if .ensures .few, l .inv .0), sum-on 0 (now (a .numbers)) (l .k) b (is (a .n)) (l .found) (c .one-if .result) (l .inv .1) (c .one-if .ensures .is))
 
 returns : tie.Need-returns Inv-loop μ-loop
 returns c =

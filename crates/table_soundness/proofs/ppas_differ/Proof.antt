@@ -1,3 +1,4 @@
+-- The PPAs before k have passed.
 use Prim.Native.Nat.{ℕ, _-_, _<_}
 use mathlib.Core.Path.{_≡_, refl, ap, _∙_}
 use lib.ListN.{length, getD}
@@ -29,21 +30,33 @@ loop-holds c = refl
 
 returns : tie.Need-returns Inv-loop μ-loop
 returns c =
-    let s = c .before .before .before .before .before .before .before in
+    let at-ppas-with = c .before in
+    let at-ppa-number = at-ppas-with .before in
+    let at-loop-test = at-ppa-number .before in
+    let turn = at-loop-test .before in
+    let at-ppa-total = turn .before in
+    let s = at-ppa-total .before .before in
     let t = tableOf (now (s .args .img)) in
-    let k = c .before .before .before .before .loop .k in
-    let b : k < length (ppaNumbers t) = omega (arith, c .before .before .before .loop-test .taken, c .before .before .before .before .before .ppa-total .ensures, ppas-many t) in
-    let e : c .before .ppas-with .result ≡ occ (getD (ppaNumbers t) k 0) (ppaNumbers t) = c .before .ppas-with .ensures ∙ ap (λ (n : ℕ). occ n (ppaNumbers t)) (c .before .before .ppa-number .ensures) in
-    all-fails 0 (ppaNumbers t) k b (once t) (c .before .before .before .before .loop .inv) (lt-leb (occ (getD (ppaNumbers t) k 0) (ppaNumbers t)) 1 (omega (arith, e, c .if1 .taken)))
+    let k = turn .loop .k in
+    let b : k < length (ppaNumbers t) = omega (arith, at-loop-test .loop-test .taken, at-ppa-total .ppa-total .ensures, ppas-many t) in
+    let e : at-ppas-with .ppas-with .result ≡ occ (getD (ppaNumbers t) k 0) (ppaNumbers t) =
+    at-ppas-with .ppas-with .ensures ∙ ap (λ (n : ℕ). occ n (ppaNumbers t)) (at-ppa-number .ppa-number .ensures) in
+    all-fails 0 (ppaNumbers t) k b (once t) (turn .loop .inv) (lt-leb (occ (getD (ppaNumbers t) k 0) (ppaNumbers t)) 1 (omega (arith, e, c .if1 .taken)))
 
 loop-again : tie.Need-loop-again Inv-loop μ-loop
 loop-again c =
-    let s = c .before .before .before .before .before .before .before in
+    let at-ppas-with = c .before in
+    let at-ppa-number = at-ppas-with .before in
+    let at-loop-test = at-ppa-number .before in
+    let turn = at-loop-test .before in
+    let at-ppa-total = turn .before in
+    let s = at-ppa-total .before .before in
     let t = tableOf (now (s .args .img)) in
-    let k = c .before .before .before .before .loop .k in
-    let b : k < length (ppaNumbers t) = omega (arith, c .before .before .before .loop-test .taken, c .before .before .before .before .before .ppa-total .ensures, ppas-many t) in
-    let e : c .before .ppas-with .result ≡ occ (getD (ppaNumbers t) k 0) (ppaNumbers t) = c .before .ppas-with .ensures ∙ ap (λ (n : ℕ). occ n (ppaNumbers t)) (c .before .before .ppa-number .ensures) in
-    all-on 0 (ppaNumbers t) k b (once t) (c .before .before .before .before .loop .inv) (le-leb (occ (getD (ppaNumbers t) k 0) (ppaNumbers t)) 1 (omega (arith, e, c .if1 .left)))
+    let k = turn .loop .k in
+    let b : k < length (ppaNumbers t) = omega (arith, at-loop-test .loop-test .taken, at-ppa-total .ppa-total .ensures, ppas-many t) in
+    let e : at-ppas-with .ppas-with .result ≡ occ (getD (ppaNumbers t) k 0) (ppaNumbers t) =
+    at-ppas-with .ppas-with .ensures ∙ ap (λ (n : ℕ). occ n (ppaNumbers t)) (at-ppa-number .ppa-number .ensures) in
+    all-on 0 (ppaNumbers t) k b (once t) (turn .loop .inv) (le-leb (occ (getD (ppaNumbers t) k 0) (ppaNumbers t)) 1 (omega (arith, e, c .if1 .left)))
 
 returns-2 : tie.Need-returns-2 Inv-loop μ-loop
 returns-2 c =

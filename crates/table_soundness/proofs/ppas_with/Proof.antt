@@ -1,3 +1,4 @@
+-- After k turns the first k PPAs are counted.
 use Prim.Native.Nat.{ℕ, _-_, _≤_, _<_}
 use mathlib.Core.Path.{sym, ap, _∙_}
 use lib.ListN.{length}
@@ -33,13 +34,16 @@ loop-again c =
     let n = s .args .n in
     let l = c .before .before .before .loop in
     let b : l .k < length (ppaNumbers t) = omega (arith, c .before .before .loop-test .taken, c .before .before .before .before .ppa-total .ensures, ppas-many t) in
-    (omega (arith, c .one-if .ensures .1, l .inv .0), sum-on 0 (ppaNumbers t) (l .k) b (is n) (l .found) (c .one-if .result) (l .inv .1) (c .one-if .ensures .0 ∙ ap (is n) (c .before .ppa-number .ensures)))
+    let one = c .one-if .ensures .is ∙ ap (is n) (c .before .ppa-number .ensures) in
+    (omega (arith, c .one-if .ensures .few, l .inv .0), sum-on 0 (ppaNumbers t) (l .k) b (is n) (l .found) (c .one-if .result) (l .inv .1) one)
 
 returns : tie.Need-returns Inv-loop μ-loop
 returns c =
     let t = tableOf (now (c .before .before .before .before .args .img)) in
     let n = c .before .before .before .before .args .n in
-    sum-ends (ppaNumbers t) (c .before .loop .k) (omega (arith, c .loop-test .left, c .before .before .ppa-total .ensures, ppas-many t)) (is n) (c .before .loop .found) (c .before .loop .inv .1) ∙ sym (occ-sum n (ppaNumbers t))
+    let turn = c .before in
+    let all : length (ppaNumbers t) ≤ turn .loop .k = omega (arith, c .loop-test .left, turn .before .ppa-total .ensures, ppas-many t) in
+    sum-ends (ppaNumbers t) (turn .loop .k) all (is n) (turn .loop .found) (turn .loop .inv .1) ∙ sym (occ-sum n (ppaNumbers t))
 
 pub ppas-with-spec : {M : Type 1} → statement M
 ppas-with-spec =

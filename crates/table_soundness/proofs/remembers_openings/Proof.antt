@@ -1,3 +1,4 @@
+-- No stream is open exactly if all are closed, which is when as many are closed as there are.
 use mathlib.Core.Path.{sym, ap₂, _∙_}
 use mathlib.Core.Bool.{Bool, not}
 use lib.Dec.{eqb}
@@ -18,8 +19,8 @@ returns-2 c =
     let t = tableOf (now (s .args .img)) in
     let p : Slot → Bool = λ (x : Slot). not (x .isOpen) in
     simp (sym (c .before .before .remembers .ensures) ∙ c .before .if1 .left)
-    (ap₂ eqb (c .free-total .ensures) (sym (s .pre .1 .shaped .sixteen)) ∙ all-counted p (t .slots))
+    (ap₂ eqb (c .free-total .ensures) (sym (s .pre .shaped .sixteen)) ∙ all-counted p (t .slots))
 
 pub remembers-openings-spec : {M : Type 1} → statement M
 remembers-openings-spec =
-    tie.close (tie.spec (λ c κs. search needs) returns (λ c κs. search needs) returns-2)
+    tie.close (tie.spec (λ c κs. search needs) returns (λ c κs. search needs) (λ c. search needs) returns-2)

@@ -1,8 +1,8 @@
+-- A tidy image is the image of the table that it holds, so that table can be tested where it lies.
 use borrow.Author.Needs.{needs}
 use denote.Ref.{now}
 use Rattle.table_image.specs.Layout.{soundImage}
-use Rattle.table_image.specs.Lent.{Lent}
-use Rattle.table_image.proofs.Lending.{lent-tidy, lent-length}
+use Rattle.table_image.proofs.Lending.{lent-tidy}
 use Rattle.table_soundness.proofs.sound_image.Statement.{statement}
 use Rattle.table_soundness.proofs.sound_image.Tie as tie
 use Rattle.ledger.proofs.Tallies.{test-held, test-failed}
@@ -13,9 +13,7 @@ returns c = simp (test-failed (c .before .is-tidy .ensures) (c .if1 .taken))
 
 is-sound-requires : tie.Need-is-sound-requires
 is-sound-requires c κs =
-    let img = now (c .before .before .before .args .img) in
-    let l : Lent img = lent-tidy img (test-held (c .before .is-tidy .ensures) (c .if1 .left)) in
-    (lent-length img l, l)
+    lent-tidy (now (c .before .before .before .args .img)) (test-held (c .before .is-tidy .ensures) (c .if1 .left))
 
 returns-2 : tie.Need-returns-2
 unfolding soundImage

@@ -1,4 +1,4 @@
--- `text::digit` meets its contract.
+-- The letters follow from 10 on, so one test tells which of the two rows of digits it is.
 use borrow.Author.Needs.{needs}
 use borrow.Author.Tests.{lt-ltb, le-ltb}
 use Rattle.text.proofs.digit.Statement.{statement}

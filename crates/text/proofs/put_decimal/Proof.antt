@@ -1,4 +1,4 @@
--- `text::put_decimal` meets its contract: what is written are the digits made before.
+-- The digits made before stand at the end of their buffer, so all that is written from there on are the number's digits.
 use Prim.Native.Nat.{_-_}
 use native.Mathlib.Omega.{arith}
 use mathlib.Core.Path.{_≡_, ap, _∙_}
@@ -7,18 +7,26 @@ use lib.ListN.{length, take, drop, length-drop}
 use lib.Seq.{take-all}
 use borrow.Author.Needs.{needs}
 use Rattle.octets.specs.Runs.{paste}
-use Rattle.text.specs.Digits.{decimal}
+use Rattle.text.specs.Digits.{mostDigits, decimal}
 use Rattle.text.proofs.put_decimal.Statement.{statement}
 use Rattle.text.proofs.put_decimal.Tie as tie
 
 returns : tie.Need-returns
 returns c =
-    let d = c .before .before .before .before .before .before .before .put-digits in
-    let a = c .before .before .before .before .before .before .before .before .before .before .args in
-    let long : length (drop (d .result) (d .last .0)) ≡ 20 - d .result = omega (arith, length-drop (d .result) (d .last .0), d .ensures) in
-    let all : take (20 - d .result) (drop (d .result) (d .last .0)) ≡ decimal (a .n) =
-    take-all (20 - d .result) (drop (d .result) (d .last .0)) (omega (arith, long)) ∙ d .ensures .2 in
-    (omega (arith, long, ap length (d .ensures .2)), c .before .before .put-bytes .ensures ∙ ap (paste (now (a .out)) (a .at)) all)
+    let wrote = c .before .before in
+    let made = wrote .before .before .before .before .before in
+    let start = made .before .before .before in
+    let a = start .args in
+    let d = made .put-digits in
+    let digits = drop (d .result) (d .last .0) in
+    let long : length digits ≡ mostDigits - d .result = omega (arith, length-drop (d .result) (d .last .0), d .ensures) in
+    let all : take (mostDigits - d .result) digits ≡ decimal (a .n) =
+    take-all (mostDigits - d .result) digits (omega (arith, long)) ∙ d .ensures .stand in
+    record {
+      few = omega arith;
+      ends = omega (arith, long, ap length (d .ensures .stand));
+      stands = wrote .put-bytes .ensures ∙ ap (paste (now (a .out)) (a .at)) all;
+    }
 
 pub put-decimal-spec : {M : Type 1} → statement M
 put-decimal-spec =

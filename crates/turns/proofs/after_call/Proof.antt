@@ -1,4 +1,4 @@
--- `turns::after_call` meets its contract: the record lies within the input.
+-- A record lies within the bytes not read yet, so reading stays within the input, and refused calls are counted among the calls.
 use Prim.Native.Nat.{_+_, _-_}
 use native.Mathlib.Omega.{arith}
 use denote.Ref.{now}
@@ -6,8 +6,8 @@ use lib.Dec.{ltb}
 use lib.ListN.{drop, length-take}
 use borrow.Author.Needs.{needs}
 use Rattle.ledger.proofs.Tallies.{one-most}
-use Rattle.turns.specs.Turns.{unread}
 use Rattle.paper.proofs.Records.{record-within}
+use Rattle.turns.specs.Turns.{unread}
 use Rattle.turns.proofs.after_call.Statement.{statement}
 use Rattle.turns.proofs.after_call.Tie as tie
 
@@ -19,11 +19,13 @@ add-t9 c =
 
 returns : tie.Need-returns
 returns c =
-    let a = c .before .before .before .before .before .args in
+    let sized = c .before .before in
+    let a = sized .before .before .before .args in
     let input = now (a .input) in
     let t = a .t in
-    let size = c .before .before .record-size .ensures in (
-      λ i. record {
+    let size = sized .record-size .ensures in
+    record {
+      is = λ i. record {
         start = t .start + size i;
         end = t .end;
         ended = t .ended;
@@ -32,14 +34,14 @@ returns c =
         refused = c .one-more-if .ensures i;
         going = ltb 0 (size i);
         failed = t .failed;
-      },
-      record {
+      };
+      fine = record {
         order = omega (arith, size, record-within (unread input t), length-take (t .end - t .start) (drop (t .start) input));
         within = search needs;
         fits = search needs;
         counted = omega (arith, c .one-more-if .ensures, one-most (a .refused));
-      },
-    )
+      };
+    }
 
 pub after-call-spec : {M : Type 1} → statement M
 after-call-spec =

@@ -1,4 +1,4 @@
--- `wire_messages::attach_in` meets its contract: the field is read, then the size is tested.
+-- The field is read where the paper has it, then the size is tested.
 use borrow.Author.Needs.{needs}
 use Rattle.wire_messages.proofs.attach_in.Statement.{statement}
 use Rattle.wire_messages.proofs.attach_in.Tie as tie

@@ -1,10 +1,21 @@
--- `wire_messages::connect_in` meets its contract: the fields are read, then the size is tested.
+-- The fields are read where the paper has them, the SAP as the last byte of the address, then the size is tested.
 use borrow.Author.Needs.{needs}
 use Rattle.wire_messages.proofs.connect_in.Statement.{statement}
 use Rattle.wire_messages.proofs.connect_in.Tie as tie
 
 returns : tie.Need-returns
-returns c = rw (c .of-size .ensures, c .before .byte-at .ensures, c .before .before .number32-at3 .ensures, c .before .before .before .number32-at2 .ensures, c .before .before .before .before .number32-at .ensures)
+returns c =
+    let at-byte-at = c .before in
+    let at-number32-at3 = at-byte-at .before in
+    let at-number32-at2 = at-number32-at3 .before in
+    let at-number32-at = at-number32-at2 .before in
+    rw (
+      c .of-size .ensures,
+      at-byte-at .byte-at .ensures,
+      at-number32-at3 .number32-at3 .ensures,
+      at-number32-at2 .number32-at2 .ensures,
+      at-number32-at .number32-at .ensures,
+    )
 
 pub connect-in-spec : {M : Type 1} → statement M
 connect-in-spec =

@@ -1,4 +1,4 @@
--- `wire_messages::of_size` meets its contract: the length decides.
+-- The length is compared with the size, as the paper does.
 use borrow.Author.Tests.{lt-ltb, le-ltb}
 use Rattle.ledger.specs.Choice.{_⇒_∣_}
 use Rattle.paper.specs.Messages.{sized}

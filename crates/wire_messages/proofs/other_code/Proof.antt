@@ -1,4 +1,4 @@
--- `wire_messages::other_code` meets its contract: each code of step 1 stands in the list, and no other.
+-- The codes that are tested are the eight of step 1, and what is none of them is in their list at no place.
 use borrow.Author.Tests.{ne-eqb}
 use Rattle.ledger.specs.Choice.{_⇒_∣_}
 use Rattle.paper.specs.Messages.{otherCode}
@@ -39,7 +39,25 @@ returns-8 c = rw (c .match .keys8)
 
 returns-9 : tie.Need-returns-9
 unfolding otherCode _⇒_∣_
-returns-9 c = simp (ne-eqb _ 7 (c .match .rest .0 .0 .0 .0 .0 .0 .0 .1), ne-eqb _ 10 (c .match .rest .0 .0 .0 .0 .0 .0 .1), ne-eqb _ 21 (c .match .rest .0 .0 .0 .0 .0 .1), ne-eqb _ 27 (c .match .rest .0 .0 .0 .0 .1), ne-eqb _ 29 (c .match .rest .0 .0 .0 .1), ne-eqb _ 30 (c .match .rest .0 .0 .1), ne-eqb _ 31 (c .match .rest .0 .1), ne-eqb _ 32 (c .match .rest .1))
+returns-9 c =
+    let not-20 = c .match .rest in
+    let not-1f = not-20 .0 in
+    let not-1e = not-1f .0 in
+    let not-1d = not-1e .0 in
+    let not-1b = not-1d .0 in
+    let not-15 = not-1b .0 in
+    let not-0a = not-15 .0 in
+    let not-07 = not-0a .0 in
+    simp (
+      ne-eqb _ 7 (not-07 .1),
+      ne-eqb _ 10 (not-0a .1),
+      ne-eqb _ 21 (not-15 .1),
+      ne-eqb _ 27 (not-1b .1),
+      ne-eqb _ 29 (not-1d .1),
+      ne-eqb _ 30 (not-1e .1),
+      ne-eqb _ 31 (not-1f .1),
+      ne-eqb _ 32 (not-20 .1),
+    )
 
 pub other-code-spec : {M : Type 1} → statement M
 other-code-spec =

@@ -1,4 +1,4 @@
--- `wire_messages::primitive_of` meets its contract: each code stands in the list at its place.
+-- The codes are tested as the paper's list has them, so what is none of them is another code there too.
 use borrow.Author.Tests.{ne-eqb}
 use Rattle.ledger.specs.Choice.{_⇒_∣_}
 use Rattle.paper.specs.Messages.{primitiveOf}
@@ -52,7 +52,32 @@ returns-11 c = rw (c .match .keys11)
 
 returns-12 : tie.Need-returns-12
 unfolding primitiveOf _⇒_∣_
-returns-12 c = simp (ne-eqb _ 0 (c .before .match .rest .0 .0 .0 .0 .0 .0 .0 .0 .0 .0 .1), ne-eqb _ 11 (c .before .match .rest .0 .0 .0 .0 .0 .0 .0 .0 .0 .1), ne-eqb _ 12 (c .before .match .rest .0 .0 .0 .0 .0 .0 .0 .0 .1), ne-eqb _ 2 (c .before .match .rest .0 .0 .0 .0 .0 .0 .0 .1), ne-eqb _ 1 (c .before .match .rest .0 .0 .0 .0 .0 .0 .1), ne-eqb _ 13 (c .before .match .rest .0 .0 .0 .0 .0 .1), ne-eqb _ 15 (c .before .match .rest .0 .0 .0 .0 .1), ne-eqb _ 17 (c .before .match .rest .0 .0 .0 .1), ne-eqb _ 19 (c .before .match .rest .0 .0 .1), ne-eqb _ 23 (c .before .match .rest .0 .1), ne-eqb _ 25 (c .before .match .rest .1)) (c .other-code .ensures)
+returns-12 c =
+    let not-reset-res = c .before .match .rest in
+    let not-reset = not-reset-res .0 in
+    let not-disconnect = not-reset .0 in
+    let not-token = not-disconnect .0 in
+    let not-connect-res = not-token .0 in
+    let not-connect = not-connect-res .0 in
+    let not-bind = not-connect .0 in
+    let not-unbind = not-bind .0 in
+    let not-detach = not-unbind .0 in
+    let not-attach = not-detach .0 in
+    let not-info = not-attach .0 in
+    simp (
+      ne-eqb _ 0 (not-info .1),
+      ne-eqb _ 11 (not-attach .1),
+      ne-eqb _ 12 (not-detach .1),
+      ne-eqb _ 2 (not-unbind .1),
+      ne-eqb _ 1 (not-bind .1),
+      ne-eqb _ 13 (not-connect .1),
+      ne-eqb _ 15 (not-connect-res .1),
+      ne-eqb _ 17 (not-token .1),
+      ne-eqb _ 19 (not-disconnect .1),
+      ne-eqb _ 23 (not-reset .1),
+      ne-eqb _ 25 (not-reset-res .1),
+    )
+    (c .other-code .ensures)
 
 pub primitive-of-spec : {M : Type 1} → statement M
 primitive-of-spec =

@@ -1,12 +1,13 @@
--- `wire_records::has_nonzero_padding` meets its contract: from past L to the end of the block are 96 - L bytes.
+-- From past L to the end of the record are the block's bytes less L: those are the padding, and with L over the block there are none.
 use borrow.Author.Tests.{lt-leb, le-leb}
 use native.Mathlib.Omega.{arith}
 use mathlib.Core.Path.{_≡_, ap}
-use Rattle.paper.specs.RecordsIn.{hasNonzeroPadding}
+use Rattle.paper.specs.RecordsIn.{hasNonzeroPadding, messageSize, headSize}
 use Prim.Native.Nat.{_+_, _-_}
 use mathlib.Core.Bool.{not}
 use borrow.Author.Needs.{needs}
 use Rattle.wire_records.proofs.has_nonzero_padding.Statement.{statement}
+use Rattle.octets.specs.Blocks.{blockSize}
 use Rattle.wire_records.proofs.has_nonzero_padding.Tie as tie
 
 returns : tie.Need-returns
@@ -17,7 +18,7 @@ returns-2 : tie.Need-returns-2
 unfolding hasNonzeroPadding
 returns-2 c =
     let l = c .before .before .before .byte-at .result in
-    let e : 99 - (3 + l) ≡ 96 - l = omega arith in
+    let e : messageSize - (headSize + l) ≡ blockSize - l = omega arith in
     simp (← c .before .before .before .byte-at .ensures, le-leb _ _ (c .before .before .if1 .left), ← e) (ap not (c .is-zero .ensures))
 
 pub has-nonzero-padding-spec : {M : Type 1} → statement M

@@ -1,4 +1,4 @@
--- `wire_records::input_as` meets its contract, an arm for each kind: a whole message has the 99 bytes that its padding test asks for.
+-- Each kind's values are read where the paper has them; a whole message is long enough for the test of its padding.
 use borrow.Author.Needs.{needs}
 use Rattle.wire_records.proofs.input_as.Statement.{statement}
 use Rattle.wire_records.proofs.input_as.Tie as tie
@@ -25,7 +25,11 @@ returns-7 : tie.Need-returns-7
 returns-7 c = rw (c .before .enum-told7 .given .1, c .number32-at3 .ensures, c .before .before .before .byte-at .ensures)
 
 returns-8 : tie.Need-returns-8
-returns-8 c = rw (c .before .before .enum-told8 .given .1, c .number32-at5 .ensures, c .before .number32-at4 .ensures, c .before .before .before .before .byte-at .ensures)
+returns-8 c =
+    let at-number32-at4 = c .before in
+    let at-enum-told8 = at-number32-at4 .before in
+    let at-byte-at = at-enum-told8 .before .before in
+    rw (at-enum-told8 .enum-told8 .given .1, c .number32-at5 .ensures, at-number32-at4 .number32-at4 .ensures, at-byte-at .byte-at .ensures)
 
 returns-9 : tie.Need-returns-9
 returns-9 c = rw (c .before .enum-told9 .given .1, c .number32-at6 .ensures, c .before .before .before .byte-at .ensures)

@@ -1,4 +1,4 @@
--- `wire_records::input_of` meets its contract: a record that has a size is whole, so its values can be read.
+-- A record that has a size is whole, so its values can be read.
 use borrow.Author.Tests.{eq-eqb, ne-eqb}
 use mathlib.Core.Path.{_∙_}
 use Rattle.ledger.specs.Choice.{_⇒_∣_}
@@ -13,11 +13,25 @@ unfolding inputOf _⇒_∣_
 returns c = simp (← c .before .record-size .ensures, eq-eqb _ _ (c .if1 .taken))
 
 input-as-requires : tie.Need-input-as-requires
-input-as-requires c κs = rw (c .kind-of .ensures, c .before .byte-at .ensures) (whole _ (λ e. c .before .before .if1 .left (c .before .before .before .record-size .ensures ∙ e)))
+input-as-requires c κs =
+    let at-byte-at = c .before in
+    let at-if1 = at-byte-at .before in
+    let at-record-size = at-if1 .before in
+    rw (c .kind-of .ensures, at-byte-at .byte-at .ensures) (whole _ (λ e. at-if1 .if1 .left (at-record-size .record-size .ensures ∙ e)))
 
 returns-2 : tie.Need-returns-2
 unfolding inputOf _⇒_∣_
-returns-2 c = simp (← c .before .before .before .before .record-size .ensures, ne-eqb _ _ (c .before .before .before .if1 .left), ← c .before .before .byte-at .ensures, ← c .before .kind-of .ensures) (c .input-as .ensures)
+returns-2 c =
+    let at-kind-of = c .before in
+    let at-byte-at = at-kind-of .before in
+    let at-if1 = at-byte-at .before in
+    let at-record-size = at-if1 .before in
+    simp (
+      ← at-record-size .record-size .ensures,
+      ne-eqb _ _ (at-if1 .if1 .left),
+      ← at-byte-at .byte-at .ensures,
+      ← at-kind-of .kind-of .ensures,
+    ) (c .input-as .ensures)
 
 pub input-of-spec : {M : Type 1} → statement M
 input-of-spec =

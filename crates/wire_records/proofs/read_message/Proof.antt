@@ -1,4 +1,4 @@
--- `wire_records::read_message` meets its contract: the padding decides.
+-- The padding decides, by the paper's own test of it.
 use Rattle.ledger.specs.Choice.{_⇒_∣_}
 use borrow.Author.Needs.{needs}
 use Rattle.wire_records.proofs.read_message.Statement.{statement}

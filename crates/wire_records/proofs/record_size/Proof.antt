@@ -1,4 +1,4 @@
--- `wire_records::record_size` meets its contract: the size is compared with what is there.
+-- The size of the kind is compared with what is there, as the paper does.
 use borrow.Author.Tests.{lt-leb, le-leb}
 use Rattle.ledger.specs.Choice.{_⇒_∣_}
 use Rattle.paper.specs.RecordsIn.{recordSize}

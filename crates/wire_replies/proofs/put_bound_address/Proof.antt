@@ -1,4 +1,4 @@
--- `wire_replies::put_bound_address` meets its contract: an address, or nothing.
+-- The test is the paper's: where the stream's state tells its binding the address is written, else nothing.
 use borrow.Author.Needs.{needs}
 use native.Mathlib.Omega.{arith}
 use mathlib.Core.Path.{refl, sym, _∙_}
@@ -7,11 +7,12 @@ use Rattle.wire_replies.proofs.put_bound_address.Tie as tie
 
 returns : tie.Need-returns
 returns c =
-    let m = c .before .before .put-address .ensures in
-    rw (sym (c .before .before .before .before .before .is-told .ensures) ∙ c .before .before .before .before .if1 .taken) m
+    let address = c .before .before in
+    let tested = address .before .before in
+    rw (sym (tested .before .is-told .ensures) ∙ tested .if1 .taken) (address .put-address .ensures)
 
 returns-2 : tie.Need-returns-2
-returns-2 c = rw (sym (c .before .is-told .ensures) ∙ c .if1 .left) (refl, omega arith, refl)
+returns-2 c = rw (sym (c .before .is-told .ensures) ∙ c .if1 .left) (record { few = omega arith; ends = refl; stands = refl })
 
 pub put-bound-address-spec : {M : Type 1} → statement M
 put-bound-address-spec =

@@ -1,21 +1,19 @@
--- `wire_replies::put_connect` meets its contract: the address goes behind the start.
+-- The called address goes right behind the letter and the stream, and is no longer than an address.
 use borrow.Author.Needs.{needs}
 use denote.Ref.{now}
 use native.Mathlib.Omega.{arith}
-use mathlib.Core.Path.{sym, _∙_}
 use mathlib.Core.List.{[], _∷_}
+use Rattle.octets.proofs.Writing.{wrote-put, wrote-most}
 use Rattle.wire_replies.proofs.put_connect.Statement.{statement}
 use Rattle.wire_replies.proofs.put_connect.Tie as tie
-use Rattle.octets.proofs.Runs.{paste-next}
 
 returns : tie.Need-returns
 returns c =
-    let p = c .before .before .before .before .before .before .put-start in
-    let a = c .before .before .before .before .before .before .before .before .before .before .args in (
-      omega arith,
-      omega arith,
-      c .before .before .put-bytes .ensures ∙ paste-next (99 ∷ a .s ∷ []) (now (a .called)) (now (a .room)) (p .result) (p .ensures .1) (sym (p .ensures .0)),
-    )
+    let address = c .before .before in
+    let start = address .before .before .before .before in
+    let a = start .before .before .before .before .args in
+    wrote-most (omega arith)
+    (wrote-put (99 ∷ a .s ∷ []) (now (a .called)) (omega arith) (start .put-start .ensures) (address .put-bytes .ensures) (omega arith))
 
 pub put-connect-spec : {M : Type 1} → statement M
 put-connect-spec =

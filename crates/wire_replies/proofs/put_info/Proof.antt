@@ -1,4 +1,5 @@
--- `wire_replies::put_info` meets its contract: unbound and bound, the fields are those of `infoOf`.
+-- Whether INFO_ACK tells the binding is tested by the stream's state, as the paper has it, so either way the fields are the
+-- stream's own.
 use borrow.Author.Needs.{needs}
 use denote.Ref.{now}
 use Prim.Native.Nat.{ℕ, _+_, _-_, _^_}
@@ -7,8 +8,9 @@ use mathlib.Core.Path.{_≡_, sym, ap, _∙_}
 use mathlib.Core.Bool.{true}
 use mathlib.Core.List.{List, _∷_, _++_}
 use borrow.Author.Tests.{not-true, not-false}
-use Rattle.octets.specs.Runs.{over}
 use Rattle.octets.specs.Blocks.{flat}
+use Rattle.octets.proofs.Writing.{wrote-same}
+use Rattle.paper.specs.Base.{macSize}
 use Rattle.paper.specs.Replies.{sapLength, infoFields, infoOf, contentOf}
 use Rattle.paper.specs.RecordsOut.{up, bytesOf, messageBytes}
 use Rattle.paper.specs.declared.Reply.the-variants.{InfoAck}
@@ -16,36 +18,39 @@ use Rattle.paper.specs.declared.Stream.{Stream}
 use Rattle.wire_replies.proofs.put_info.Statement.{statement}
 use Rattle.wire_replies.proofs.put_info.Tie as tie
 
--- what is written for the fields of a stream is its INFO_ACK
-written : (s : ℕ) (q : Stream) (tail room : List ℕ) {fields : List ℕ} → fields ≡ infoOf q
-    → over (messageBytes true s (flat (3 ∷ fields) ++ tail)) room ≡ over (bytesOf (up s (InfoAck q) tail)) room
+-- a message with the fields of a stream is its INFO_ACK
+told : (s : ℕ) (q : Stream) (tail : List ℕ) {fields : List ℕ} → fields ≡ infoOf q
+    → messageBytes true s (flat (3 ∷ fields) ++ tail) ≡ bytesOf (up s (InfoAck q) tail)
 unfolding contentOf
-written s q tail room e = ap (λ (f : List ℕ). over (messageBytes true s (flat (3 ∷ f) ++ tail)) room) e
+told s q tail e = ap (λ (f : List ℕ). messageBytes true s (flat (3 ∷ f) ++ tail)) e
 
 returns : tie.Need-returns
 unfolding infoOf
 returns c =
-    let m = c .before .before .put-info-fields .ensures in
-    let bound = c .before .before .before .before .before .is-told in
-    let n = c .before .before .before .before .before .before .number-of in
-    let a = c .before .before .before .before .before .before .before .before .before .args in
+    let message = c .before .before in
+    let tested = message .before .before in
+    let bound = tested .before .is-told in
+    let n = tested .before .before .number-of in
+    let a = tested .before .before .before .before .before .args in
     let e : infoFields (n .result) 0 0 3 0 ≡ infoOf (a .q) =
-    simp (sym (bound .ensures) ∙ not-true (bound .result) (c .before .before .before .before .if1 .taken), n .ensures) in
-    (m .0, m .1 ∙ written (a .s) (a .q) (now (a .tail)) (now (a .room)) e)
+    simp (sym (bound .ensures) ∙ not-true (bound .result) (tested .if1 .taken), n .ensures) in
+    wrote-same (told (a .s) (a .q) (now (a .tail)) e) (message .put-info-fields .ensures)
 
 returns-2 : tie.Need-returns-2
 unfolding infoOf
 returns-2 c =
-    let m = c .before .before .put-info-fields2 .ensures in
-    let size = c .before .before .before .before .sap-length in
-    let bound = c .before .before .before .before .before .before .is-told in
-    let n = c .before .before .before .before .before .before .before .number-of in
-    let a = c .before .before .before .before .before .before .before .before .before .before .args in
-    let known : size .result ≡ sapLength (a .q .sap) = size .ensures .0 in
+    let message = c .before .before in
+    let measured = message .before .before in
+    let size = measured .sap-length in
+    let tested = measured .before in
+    let bound = tested .before .is-told in
+    let n = tested .before .before .number-of in
+    let a = tested .before .before .before .before .before .args in
+    let known : size .result ≡ sapLength (a .q .sap) = size .ensures .exactly in
     let minus : 4294967295 - sapLength (a .q .sap) + 1 ≡ 2 ^ 32 - sapLength (a .q .sap) = omega arith in
-    let e : infoFields (n .result) (6 + size .result) (4294967295 - size .result + 1) (a .q .mode) 76 ≡ infoOf (a .q) =
-    simp (sym (bound .ensures) ∙ not-false (bound .result) (c .before .before .before .before .before .if1 .left), n .ensures, known, minus) in
-    (m .0, m .1 ∙ written (a .s) (a .q) (now (a .tail)) (now (a .room)) e)
+    let e : infoFields (n .result) (macSize + size .result) (4294967295 - size .result + 1) (a .q .mode) 76 ≡ infoOf (a .q) =
+    simp (sym (bound .ensures) ∙ not-false (bound .result) (tested .if1 .left), n .ensures, known, minus) in
+    wrote-same (told (a .s) (a .q) (now (a .tail)) e) (message .put-info-fields2 .ensures)
 
 pub put-info-spec : {M : Type 1} → statement M
 put-info-spec =
@@ -57,6 +62,7 @@ put-info-spec =
     (λ c. search needs)
     returns
     (λ c κs. search needs)
+    (λ c. search needs)
     (λ c. search needs)
     (λ c. search needs)
     (λ c. search needs)

@@ -1,12 +1,12 @@
--- `wire_replies::put_info_fields` meets its contract: the nineteen fields as one message, state and mode in four bytes each.
+-- The nineteen fields are the code and those of INFO_ACK, where state and mode, a byte each, take four bytes.
 use borrow.Author.Needs.{needs}
 use denote.Ref.{now}
 use Prim.Native.Nat.{ℕ}
-use mathlib.Core.Path.{ap₂, _∙_}
+use mathlib.Core.Path.{ap₂}
 use mathlib.Core.Bool.{true}
 use mathlib.Core.List.{List, _∷_, _++_}
-use Rattle.octets.specs.Runs.{over}
 use Rattle.octets.specs.Blocks.{flat}
+use Rattle.octets.proofs.Writing.{wrote-same}
 use Rattle.paper.specs.Replies.{infoFields}
 use Rattle.paper.specs.RecordsOut.{messageBytes}
 use Rattle.wire_replies.proofs.put_info_fields.Statement.{statement}
@@ -14,12 +14,14 @@ use Rattle.wire_replies.proofs.put_info_fields.Tie as tie
 
 returns : tie.Need-returns
 returns c =
-    let m = c .before .before .put-message in
-    let mode = c .before .before .before .before .before .wide2 .ensures .0 in
-    let state = c .before .before .before .before .before .before .wide .ensures .0 in
-    let a = c .before .before .before .before .before .before .before .before .before .args in
+    let message = c .before .before in
+    let widened-mode = message .before .before .before in
+    let widened-state = widened-mode .before in
+    let a = widened-state .before .before .before .args in
     let fields : ℕ → ℕ → List ℕ = λ (q m : ℕ). 3 ∷ infoFields q (a .address) (a .sap) m (a .offset) in
-    (m .ensures .0, m .ensures .1 ∙ ap₂ (λ (q m : ℕ). over (messageBytes true (a .s) (flat (fields q m) ++ now (a .tail))) (now (a .room))) state mode)
+    wrote-same
+    (ap₂ (λ (q m : ℕ). messageBytes true (a .s) (flat (fields q m) ++ now (a .tail))) (widened-state .wide .ensures .is) (widened-mode .wide2 .ensures .is))
+    (message .put-message .ensures)
 
 pub put-info-fields-spec : {M : Type 1} → statement M
 put-info-fields-spec =

@@ -1,33 +1,36 @@
--- `wire_replies::put_message` meets its contract: the block goes behind the three bytes before it.
+-- The block goes right behind the letter, the stream and L, and L is how long the fields and the bytes behind them are.
 use borrow.Author.Needs.{needs}
 use denote.Ref.{now}
 use Prim.Native.Nat.{ℕ}
-use mathlib.Core.Path.{refl, sym, ap, _∙_}
+use native.Mathlib.Omega.{arith}
+use mathlib.Core.Path.{_≡_, refl, sym, ap, _∙_}
 use mathlib.Core.List.{List, [], _∷_, _++_}
 use lib.ListN.{length}
-use Rattle.octets.specs.Runs.{paste, over}
-use Rattle.octets.specs.Blocks.{flat, pad}
-use Rattle.octets.proofs.Runs.{paste-next}
-use Rattle.octets.proofs.Blocks.{content-length}
+use Rattle.octets.specs.Runs.{paste}
+use Rattle.octets.specs.Blocks.{flat, blockSize, pad}
+use Rattle.octets.specs.Writing.{Wrote}
+use Rattle.octets.proofs.Writing.{wrote-put, wrote-most}
+use Rattle.octets.proofs.Blocks.{content-length, pad-length}
+use Rattle.paper.specs.RecordsIn.{headSize}
 use Rattle.wire_replies.proofs.put_message.Statement.{statement}
 use Rattle.wire_replies.proofs.put_message.Tie as tie
 
 returns : tie.Need-returns
 returns c =
-    let w = c .before .before .before .before .block-with in
-    let p = c .before .before .before .before .before .before .before .before .put-bytes in
-    let a = c .before .before .before .before .before .before .before .before .before .before .before .before .before .before .args in
+    let block = c .before .before in
+    let filled = block .before .before .block-with in
+    let head = block .before .before .before .before .before .before in
+    let a = head .before .before .before .before .before .before .args in
     let fields = now (a .fields) in
     let tail = now (a .tail) in
     let content = flat fields ++ tail in
-    let start : List ℕ = a .letter ∷ a .s ∷ length content ∷ [] in (
-      refl,
-      c .before .before .put-bytes2 .ensures
-          ∙ ap (paste (p .last .0) 3) (w .ensures)
-          ∙ paste-next start (pad content) (now (a .room)) 3
-          (p .ensures ∙ ap (λ (n : ℕ). over (a .letter ∷ a .s ∷ n ∷ []) (now (a .room))) (sym (content-length fields tail)))
-          refl,
-    )
+    let long = content-length fields tail in
+    let start : List ℕ = a .letter ∷ a .s ∷ length content ∷ [] in
+    let begun : Wrote start 0 headSize (now (a .room)) (head .put-bytes .last .0) =
+    record { ends = refl; stands = head .put-bytes .ensures ∙ ap (λ (n : ℕ). paste (now (a .room)) 0 (a .letter ∷ a .s ∷ n ∷ [])) (sym long) } in
+    let size : length (pad content) ≡ blockSize = pad-length blockSize content (omega (arith, long)) in
+    wrote-most (omega arith)
+    (wrote-put start (pad content) (omega arith) begun (block .put-bytes2 .ensures ∙ ap (paste (head .put-bytes .last .0) headSize) (filled .ensures)) (omega arith))
 
 pub put-message-spec : {M : Type 1} → statement M
 put-message-spec =

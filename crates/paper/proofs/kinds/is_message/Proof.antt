@@ -1,4 +1,4 @@
--- `paper::is_message` meets its contract.
+-- The two letters are those of the paper's test.
 use borrow.Author.Tests.{eq-eqb, ne-eqb}
 use Rattle.paper.proofs.kinds.is_message.Statement.{statement}
 use Rattle.paper.proofs.kinds.is_message.Tie as tie

@@ -1,4 +1,4 @@
--- `paper::size_out` meets its contract: one test after another.
+-- The letters are tested as the paper's list has them, each with its size.
 use borrow.Author.Tests.{eq-eqb, ne-eqb}
 use borrow.Author.Needs.{needs}
 use Rattle.ledger.specs.Choice.{_⇒_∣_}

@@ -1,3 +1,4 @@
+-- The bound states are those from 6 on.
 use borrow.Author.Needs.{needs}
 use Rattle.paper.proofs.StateNumbers.{bound-from}
 use Rattle.paper.proofs.states.holds_binding.Statement.{statement}

@@ -1,3 +1,4 @@
+-- The states bound in mode 1 alone are those from 8 on.
 use borrow.Author.Needs.{needs}
 use Rattle.paper.proofs.StateNumbers.{connection-from}
 use Rattle.paper.proofs.states.is_connection.Statement.{statement}

@@ -1,3 +1,4 @@
+-- The states with a connection that is up are those from 11 on.
 use borrow.Author.Needs.{needs}
 use Rattle.paper.proofs.StateNumbers.{joined-from}
 use Rattle.paper.proofs.states.is_joined.Statement.{statement}

@@ -1,3 +1,4 @@
+-- Each rule's error is the paper's, rule by rule.
 use borrow.Author.Needs.{needs}
 use Rattle.paper_rules.proofs.errors.error_of.Statement.{statement}
 use Rattle.paper_rules.proofs.errors.error_of.Tie as tie

@@ -1,3 +1,4 @@
+-- The two tests are the paper's, in its order.
 use borrow.Author.Tests.{eq-eqb, ne-eqb}
 use borrow.Author.Needs.{needs}
 use Rattle.paper_rules.proofs.order.connects_to_type.Statement.{statement}

@@ -1,3 +1,4 @@
+-- The two modes are tested as the paper does: one is enough.
 use borrow.Author.Tests.{eq-eqb, ne-eqb}
 use Rattle.paper_rules.proofs.order.is_mode.Statement.{statement}
 use Rattle.paper_rules.proofs.order.is_mode.Tie as tie

@@ -1,3 +1,4 @@
+-- The number is tested first and the QOS next, as in step 6; what is left is the carrier's.
 use borrow.Author.Tests.{eq-eqb, ne-eqb}
 use Rattle.ledger.specs.Choice.{_⇒_∣_}
 use Rattle.paper.specs.ErrorOrder.{judgeAccept}

@@ -1,3 +1,4 @@
+-- Step 3 is one test: whether the PPA is known.
 use Rattle.ledger.specs.Choice.{_⇒_∣_}
 use Rattle.paper.specs.ErrorOrder.{judgeAttach}
 use Rattle.paper_rules.proofs.order.judge_attach.Statement.{statement}

@@ -1,3 +1,4 @@
+-- Each carrier that a token can name has its own rule.
 use Rattle.paper.specs.ErrorOrder.{judgeCarrier}
 use borrow.Author.Needs.{needs}
 use Rattle.paper_rules.proofs.order.judge_carrier.Statement.{statement}

@@ -1,3 +1,4 @@
+-- The rules are tested in the order of step 5; the sum is taken in eight bytes, where it does not wrap.
 use borrow.Author.Tests.{lt-ltb, le-ltb, eq-eqb, ne-eqb}
 use Rattle.ledger.specs.Choice.{_⇒_∣_}
 use Rattle.paper.specs.ErrorOrder.{judgeConnect}
@@ -19,21 +20,48 @@ returns-3 c = simp (eq-eqb _ _ (c .before .before .before .if1 .left), eq-eqb _ 
 
 returns-4 : tie.Need-returns-4
 unfolding judgeConnect _⇒_∣_
-returns-4 c = simp (eq-eqb _ _ (c .before .before .before .before .before .if1 .left), eq-eqb _ _ (c .before .before .before .if2 .left), le-ltb _ _ (c .before .before .if3 .left), lt-ltb _ _ (c .if4 .taken))
+returns-4 c =
+    let at-if3 = c .before .before in
+    let at-if2 = at-if3 .before in
+    let at-if1 = at-if2 .before .before in
+    simp (eq-eqb _ _ (at-if1 .if1 .left), eq-eqb _ _ (at-if2 .if2 .left), le-ltb _ _ (at-if3 .if3 .left), lt-ltb _ _ (c .if4 .taken))
 
 returns-5 : tie.Need-returns-5
 unfolding judgeConnect _⇒_∣_
-returns-5 c = simp (eq-eqb _ _ (c .before .before .before .before .before .before .before .if1 .left), eq-eqb _ _ (c .before .before .before .before .before .if2 .left), le-ltb _ _ (c .before .before .before .before .if3 .left), le-ltb _ _ (c .before .before .if4 .left), eq-eqb _ _ (c .if5 .taken))
+returns-5 c =
+    let at-if4 = c .before .before in
+    let at-if3 = at-if4 .before .before in
+    let at-if2 = at-if3 .before in
+    let at-if1 = at-if2 .before .before in
+    simp (
+      eq-eqb _ _ (at-if1 .if1 .left),
+      eq-eqb _ _ (at-if2 .if2 .left),
+      le-ltb _ _ (at-if3 .if3 .left),
+      le-ltb _ _ (at-if4 .if4 .left),
+      eq-eqb _ _ (c .if5 .taken),
+    )
 
 returns-6 : tie.Need-returns-6
 unfolding judgeConnect _⇒_∣_
-returns-6 c = simp (eq-eqb _ _ (c .before .before .before .before .before .before .before .if1 .left), eq-eqb _ _ (c .before .before .before .before .before .if2 .left), le-ltb _ _ (c .before .before .before .before .if3 .left), le-ltb _ _ (c .before .before .if4 .left), ne-eqb _ _ (c .if5 .left))
+returns-6 c =
+    let at-if4 = c .before .before in
+    let at-if3 = at-if4 .before .before in
+    let at-if2 = at-if3 .before in
+    let at-if1 = at-if2 .before .before in
+    simp (
+      eq-eqb _ _ (at-if1 .if1 .left),
+      eq-eqb _ _ (at-if2 .if2 .left),
+      le-ltb _ _ (at-if3 .if3 .left),
+      le-ltb _ _ (at-if4 .if4 .left),
+      ne-eqb _ _ (c .if5 .left),
+    )
 
 pub judge-connect-spec : {M : Type 1} → statement M
 judge-connect-spec =
     tie.close
     (tie.spec
     returns
+    (λ c. search needs)
     returns-2
     returns-3
     (λ c. search needs)

@@ -1,3 +1,4 @@
+-- A denial is one test: whether the number is open here.
 use Rattle.ledger.specs.Choice.{_⇒_∣_}
 use Rattle.paper.specs.ErrorOrder.{judgeDenial}
 use Rattle.paper_rules.proofs.order.judge_denial.Statement.{statement}

@@ -1,3 +1,4 @@
+-- The state says which rule of step 7 is asked, and each is one test.
 use borrow.Author.Tests.{eq-eqb, ne-eqb}
 use Rattle.ledger.specs.Choice.{_⇒_∣_}
 use Rattle.paper.specs.ErrorOrder.{judgeDisconnect}

@@ -1,3 +1,4 @@
+-- A stream that carries the call itself is one test: whether more than one is open.
 use borrow.Author.Tests.{lt-ltb, le-ltb}
 use Rattle.ledger.specs.Choice.{_⇒_∣_}
 use Rattle.paper.specs.ErrorOrder.{judgeItself}

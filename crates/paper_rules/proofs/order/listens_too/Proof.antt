@@ -1,3 +1,4 @@
+-- The three tests are the paper's, in its order.
 use borrow.Author.Tests.{lt-ltb, le-ltb, eq-eqb, ne-eqb}
 use Rattle.paper_rules.proofs.order.listens_too.Statement.{statement}
 use Rattle.paper_rules.proofs.order.listens_too.Tie as tie

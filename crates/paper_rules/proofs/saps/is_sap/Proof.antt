@@ -1,3 +1,4 @@
+-- The tests are the paper's, and the list of reserved SAPs has one number.
 use borrow.Author.Tests.{lt-ltb, le-ltb, eq-eqb, ne-eqb}
 use Rattle.paper.specs.Saps.{isSap}
 use Rattle.paper_rules.proofs.saps.is_sap.Statement.{statement}

@@ -1,3 +1,4 @@
+-- The two tests are the paper's: one is enough.
 use borrow.Author.Needs.{needs}
 use Rattle.paper_rules.proofs.saps.is_sap_or_type.Statement.{statement}
 use Rattle.paper_rules.proofs.saps.is_sap_or_type.Tie as tie

@@ -1,3 +1,4 @@
+-- The two bounds are the paper's, and no type is reserved.
 use borrow.Author.Tests.{lt-leb, le-leb}
 use lib.Dec.{leb}
 use Rattle.paper.specs.Saps.{isType}

@@ -1,15 +1,18 @@
+-- Each change is made by what stores it; one that takes an indication is asked for only where there is a place.
 use mathlib.Core.Path.{refl, sym}
 use Rattle.paper.specs.Effects.{changed}
 use borrow.Author.Needs.{needs}
-use Rattle.call_enacting.proofs.change_stream.Statement.{statement}
-use Rattle.call_enacting.proofs.change_stream.Tie as tie
+use Rattle.call_changes.proofs.change_stream.Statement.{statement}
+use Rattle.call_changes.proofs.change_stream.Tie as tie
 
 take-indication-requires : tie.Need-take-indication-requires
-take-indication-requires c κs = let a = c .before .before .before .before .before .pre in (a .0, a .1, a .2, a .3 (rw (c .before .before .change2 .given .1) refl))
+take-indication-requires c κs =
+    let lent = c .before .before .before .before .before .pre in
+    record { at = lent .at; place = lent .place (rw (c .before .before .change2 .given .1) refl) }
 
 returns : tie.Need-returns
 unfolding changed
-returns c = rw (c .enum-told .given .1) (sym (c .before .before .before .pre .2 .same))
+returns c = rw (c .enum-told .given .1) (sym (c .before .before .before .pre .at .lent .same))
 
 returns-2 : tie.Need-returns-2
 unfolding changed

@@ -10,12 +10,12 @@ use borrow.Author.Tests.{eqb-true}
 use Rattle.ledger.specs.Choice.{either}
 use Rattle.ledger.proofs.Tallies.{chosen}
 use Rattle.octets.specs.Numbers.{be32At}
-use Rattle.paper.specs.RecordsIn.{kindOf, inputAs, inputOf}
+use Rattle.paper.specs.RecordsIn.{kindOf, streamIn, inputAs, inputOf}
 use Rattle.paper.specs.declared.Input.{Input}
 use Rattle.paper.specs.declared.Input.the-variants as input
 use Rattle.paper.specs.declared.Kind.{Kind}
 use Rattle.paper.specs.declared.Kind.the-variants as kind
 use Rattle.paper.specs.RecordsOut.{isMessage}
 
 abbrev KindLetter : ℕ → Kind → Type 0
 KindLetter b kind.AddPpa = b ≡ 71
@@ -42,29 +42,40 @@ kind-letter b =
     second true e = refl
     second false e = e
 
+-- a record of a stream
+pub record LetterOf (letter : Type 0) (r : List ℕ) (i : ℕ) : Type 0 where
+  pub kind : letter
+  pub stream : streamIn r ≡ i
+
+-- a W
+pub record LetterOfW (r : List ℕ) (i n : ℕ) : Type 0 where
+  pub kind : getD r 0 0 ≡ 87
+  pub stream : streamIn r ≡ i
+  pub number : be32At r 2 ≡ n
+
 abbrev pub Letter : List ℕ → Input → Type 0
 Letter r input.Unreadable = 0 ≤ 0
 Letter r input.Padded = 0 ≤ 0
 Letter r (input.AddPpa p) = getD r 0 0 ≡ 71
 Letter r input.Open = getD r 0 0 ≡ 79
-Letter r (input.Close i) = (getD r 0 0 ≡ 88) × (getD r 1 0 ≡ i)
-Letter r (input.Message i l) = (isMessage (getD r 0 0) ≡ true) × (getD r 1 0 ≡ i)
+Letter r (input.Close i) = LetterOf (getD r 0 0 ≡ 88) r i
+Letter r (input.Message i l) = LetterOf (isMessage (getD r 0 0) ≡ true) r i
 Letter r (input.CallArrives p sap) = getD r 0 0 ≡ 73
 Letter r (input.PeerAccepted i) = getD r 0 0 ≡ 65
 Letter r (input.PeerGone i reason) = getD r 0 0 ≡ 68
-Letter r (input.CallWithdrawn i n reason) = (getD r 0 0 ≡ 87) × (getD r 1 0 ≡ i) × (be32At r 2 ≡ n .0)
+Letter r (input.CallWithdrawn i n reason) = LetterOfW r i (n .0)
 Letter r (input.PeerReset i reason) = getD r 0 0 ≡ 82
 Letter r (input.ResetConfirmed i) = getD r 0 0 ≡ 83
 
 letter-as : (r : List ℕ) (k : Kind) → KindLetter (getD r 0 0) k → Letter r (inputAs k r)
 letter-as r kind.AddPpa h = h
 letter-as r kind.Open h = h
-letter-as r kind.Close h = (h, refl)
-letter-as r kind.Message h = chosen (Letter r) _ _ _ (λ e. omega arith) (λ e. (h, refl))
+letter-as r kind.Close h = record { kind = h; stream = refl }
+letter-as r kind.Message h = chosen (Letter r) _ _ _ (λ e. omega arith) (λ e. record { kind = h; stream = refl })
 letter-as r kind.CallArrives h = h
 letter-as r kind.PeerAccepted h = h
 letter-as r kind.PeerGone h = h
-letter-as r kind.CallWithdrawn h = (h, refl, refl)
+letter-as r kind.CallWithdrawn h = record { kind = h; stream = refl; number = refl }
 letter-as r kind.PeerReset h = h
 letter-as r kind.ResetConfirmed h = h
 letter-as r kind.Unknown h = h
