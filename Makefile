@@ -1,54 +1,44 @@
 # Short ways to everything. C programs are built below target/c/; `rt` builds and proves the rest below target/.
 SHELL = /bin/bash
 .SHELLFLAGS = -o pipefail -c
+.DELETE_ON_ERROR:
 CC = gcc
 CXX = g++
-CFLAGS = -std=c11 -O2 -Wall -Wextra -Wpedantic -Werror
-CXXFLAGS = -std=c++11 -O2 -Wall -Wextra -Wpedantic -Werror
-SANITIZE = -std=c11 -O1 -g -Wall -Wextra -Wpedantic -Werror -fsanitize=address,undefined -fno-sanitize-recover=all
+WARNINGS = -Wall -Wextra -Wpedantic -Werror
+CFLAGS = -std=c11 -O2 $(WARNINGS)
+CXXFLAGS = -std=c++11 -O2 $(WARNINGS)
+SANITIZE = -std=c11 -O1 -g $(WARNINGS) -fsanitize=address,undefined -fno-sanitize-recover=all
+COVER = -std=c11 -O0 $(WARNINGS) --coverage
 
 # The Rattle kit compiles for x86-64 alone. So on any other machine the C programs that link its libraries are compiled for
 # x86-64 too, and what stands in the place of each, and of the kit's own programs, is a script that runs it under an emulator.
 # AddressSanitizer doesn't run there. C programs that link none of the libraries are the machine's own everywhere.
-MACHINE = $(shell uname -m)
+MACHINE := $(shell uname -m)
 ifeq ($(MACHINE),x86_64)
 EMULATED =
 LIBRARY_CC = $(CC)
 LIBRARY_CXX = $(CXX)
-LIBRARY_SANITIZE = $(SANITIZE)
+LIBRARY_FLAGS =
 else
 EMULATED = yes
 LIBRARY_CC = tools/cross gcc
 LIBRARY_CXX = tools/cross g++
-LIBRARY_SANITIZE = $(SANITIZE) -fno-sanitize=address
+LIBRARY_FLAGS = -fno-sanitize=address
 endif
 
-# how many calls are compared, and from which capture on
-N = 1000000
-SEED = 1
-
-RATTLE = crates.txt $(shell find crates -name '*.rt' -o -name '*.antt')
+RATTLE := crates.txt $(shell find crates -name '*.rt' -o -name '*.antt')
 LIBRARY = target/lib/libkungthevi.a
 INNER = target/staticlib/libinner.a
 REPLAY = target/run/replay
 FATES = target/run/fates
-
-SECOND = $(filter-out c/second/main.c,$(wildcard c/second/*.c))
-SELFTEST = $(wildcard c/second/test/*.c)
-GENERATE = $(filter-out c/generate/main.c c/generate/coverage.c,$(wildcard c/generate/*.c))
-HARNESS = $(wildcard c/harness/*.c)
-ENTRIES = $(wildcard c/entries/*.c)
-COMPARE = $(wildcard c/compare/*.c)
-BENCH = $(wildcard c/bench/*.c)
-HEADERS = $(wildcard c/*.h c/*/*.h c/*/*/*.h)
 CAPTURES = $(patsubst captures/%.records,target/captures/%,$(wildcard captures/*.records))
 
-.PHONY: all check demo replay fates run lib c sanitized example captures texts alike definitions entries harness selftest coverage \
-	compare bench instructions paper clean
+.PHONY: all check demo replay fates lib run c sanitized captures tested test entries example texts alike harness selftest \
+	paper definitions coverage compare bench instructions install uninstall clean
 
 all: c captures
 
-# the gate
+# the gate, which makes `tested` alone
 check:
 	.ci/run
 
@@ -67,24 +57,30 @@ replay fates: %: target/run/%
 
 # ---- what is proved
 
+# What is not proved yet is proved first, crate by crate, which takes some minutes. `rt` works on all cores, and two of them
+# would write the same files: under `make -j` one waits for the other. What this machine lacks is said first.
+PROVE = flock target rt
+PROVED = tee target/$(@F).log | grep '^rt: ' || { cat target/$(@F).log; exit 1; }
+
 # the library and its header in one folder, target/lib/
 lib: $(LIBRARY) target/lib/kungthevi.h
 
-# What is not proved yet is proved first, crate by crate, which takes some minutes.
-PROVED = tee target/rt.log | grep '^rt: ' || { cat target/rt.log; exit 1; }
-
 $(LIBRARY): $(RATTLE)
-	@mkdir -p $(@D)
-	rt staticlib kungthevi 2>&1 | $(PROVED)
+	@mkdir -p $(@D) && .ci/setup --check
+	$(PROVE) staticlib kungthevi 2>&1 | $(PROVED)
 	cp target/staticlib/libkungthevi.a $@
 
 target/lib/kungthevi.h: c/kungthevi.h
 	@mkdir -p $(@D)
 	cp $< $@
 
+$(INNER): $(RATTLE)
+	@mkdir -p $(@D) && .ci/setup --check
+	$(PROVE) staticlib inner 2>&1 | $(PROVED)
+
 target/bin/replay target/bin/fates: target/bin/%: $(RATTLE)
-	@mkdir -p $(@D)
-	rt check $* 2>&1 | $(PROVED)
+	@mkdir -p $(@D) && .ci/setup --check
+	$(PROVE) check $* 2>&1 | $(PROVED)
 
 # what is run, on any machine: target/run/NAME for the kit's program target/bin/NAME
 run: $(REPLAY) $(FATES)
@@ -98,88 +94,57 @@ else
 	ln -sf ../bin/$* $@
 endif
 
-$(INNER): $(RATTLE)
-	@mkdir -p $(@D)
-	rt staticlib inner 2>&1 | $(PROVED)
+# ---- C programs
 
-# ---- C
+HEADERS = $(wildcard c/*.h c/*/*.h c/*/*/*.h)
+SECOND = $(filter-out c/second/main.c,$(wildcard c/second/*.c))
+GENERATE = $(filter-out c/generate/main.c,$(wildcard c/generate/*.c))
 
-c: target/c/second target/c/generate target/c/coverage target/c/selftest target/c/kungthevi target/c/entries \
-	target/c/include target/c/compare target/c/bench
+# What each is made of. One that has an archive of the kit among its parts is compiled for x86-64.
+PARTS.second = $(SECOND) c/second/main.c
+PARTS.selftest = $(SECOND) $(wildcard c/second/test/*.c)
+PARTS.generate = $(GENERATE) c/generate/main.c $(SECOND)
+PARTS.kungthevi = $(wildcard c/harness/*.c) $(LIBRARY)
+PARTS.entries = $(wildcard c/entries/*.c) $(LIBRARY)
+PARTS.compare = $(wildcard c/compare/*.c) $(GENERATE) $(SECOND) $(LIBRARY)
+PARTS.bench = $(wildcard c/bench/*.c) $(GENERATE) $(SECOND) $(LIBRARY) $(INNER)
 
-target/c/second: $(SECOND) c/second/main.c $(HEADERS)
-	@mkdir -p $(@D)
-	$(CC) $(CFLAGS) -o $@ $(SECOND) c/second/main.c
+# Each plain; some under AddressSanitizer and UndefinedBehaviorSanitizer; one for x86-64 on any machine, to be timed beside the
+# library; two with the lines and branches of c/second counted as they run.
+PLAIN = $(addprefix target/c/,second selftest generate kungthevi entries compare bench)
+SANITIZED = $(addprefix target/c/sanitized/,second selftest kungthevi entries compare)
+TIMED = target/c/x86-64/second
+COVERED = $(addprefix target/c/covered/,second compare)
 
-target/c/selftest: $(SECOND) $(SELFTEST) $(HEADERS)
-	@mkdir -p $(@D)
-	$(CC) $(CFLAGS) -Ic/second -o $@ $(SECOND) $(SELFTEST)
+c: $(PLAIN) target/c/include
 
-target/c/generate: $(GENERATE) c/generate/main.c $(SECOND) $(HEADERS)
-	@mkdir -p $(@D)
-	$(CC) $(CFLAGS) -Ic/second -o $@ $(GENERATE) c/generate/main.c $(SECOND)
-
-target/c/coverage: $(GENERATE) c/generate/coverage.c $(SECOND) $(HEADERS)
-	@mkdir -p $(@D)
-	$(CC) $(CFLAGS) -Ic/second -o $@ $(GENERATE) c/generate/coverage.c $(SECOND)
-
-target/c/kungthevi: $(HARNESS) $(LIBRARY) $(HEADERS)
-	@mkdir -p $(@D)
-	$(LIBRARY_CC) $(CFLAGS) -o $@ $(HARNESS) $(LIBRARY)
-
-target/c/entries: $(ENTRIES) $(LIBRARY) $(HEADERS)
-	@mkdir -p $(@D)
-	$(LIBRARY_CC) $(CFLAGS) -o $@ $(ENTRIES) $(LIBRARY)
-
-target/c/include: c/entries/include.cc $(LIBRARY) $(HEADERS)
-	@mkdir -p $(@D)
-	$(LIBRARY_CXX) $(CXXFLAGS) -o $@ c/entries/include.cc $(LIBRARY)
-
-target/c/compare: $(COMPARE) $(GENERATE) $(SECOND) $(LIBRARY) $(HEADERS)
-	@mkdir -p $(@D)
-	$(LIBRARY_CC) $(CFLAGS) -Ic/second -o $@ $(COMPARE) $(GENERATE) $(SECOND) $(LIBRARY)
-
-target/c/bench: $(BENCH) $(GENERATE) $(SECOND) $(LIBRARY) $(INNER) $(HEADERS)
-	@mkdir -p $(@D)
-	$(LIBRARY_CC) $(CFLAGS) -Ic/second -o $@ $(BENCH) $(GENERATE) $(SECOND) $(LIBRARY) $(INNER)
-
-# the same under AddressSanitizer and UndefinedBehaviorSanitizer
-sanitized: target/c/sanitized/second target/c/sanitized/selftest target/c/sanitized/coverage target/c/sanitized/kungthevi \
-	target/c/sanitized/entries target/c/sanitized/compare
+sanitized: $(SANITIZED)
 ifdef EMULATED
 	@echo 'skipped: AddressSanitizer in kungthevi, entries and compare, as it does not run under the emulator'
 endif
 
-target/c/sanitized/second: $(SECOND) c/second/main.c $(HEADERS)
-	@mkdir -p $(@D)
-	$(CC) $(SANITIZE) -o $@ $(SECOND) c/second/main.c
+FLAGS = $(CFLAGS)
+$(SANITIZED): FLAGS = $(SANITIZE)
+$(TIMED): CC := $(LIBRARY_CC)
 
-target/c/sanitized/selftest: $(SECOND) $(SELFTEST) $(HEADERS)
+# The second expansion finds the parts by the program's name.
+.SECONDEXPANSION:
+$(PLAIN) $(SANITIZED) $(TIMED): $$(PARTS.$$(@F)) $(HEADERS)
 	@mkdir -p $(@D)
-	$(CC) $(SANITIZE) -Ic/second -o $@ $(SECOND) $(SELFTEST)
+	$(if $(filter %.a,$^),$(LIBRARY_CC) $(FLAGS) $(LIBRARY_FLAGS),$(CC) $(FLAGS)) -o $@ $(filter %.c %.a,$^)
 
-target/c/sanitized/coverage: $(GENERATE) c/generate/coverage.c $(SECOND) $(HEADERS)
+# What is counted is compiled once, for both of them, and so for x86-64.
+$(COVERED): $$(patsubst c/second/%.c,target/c/covered/%.o,$$(PARTS.$$(@F))) $(HEADERS)
+	$(LIBRARY_CC) $(CFLAGS) -o $@ $(filter %.c %.o %.a,$^) -lgcov
+
+target/c/covered/%.o: c/second/%.c $(HEADERS)
 	@mkdir -p $(@D)
-	$(CC) $(SANITIZE) -Ic/second -o $@ $(GENERATE) c/generate/coverage.c $(SECOND)
+	$(LIBRARY_CC) $(COVER) -c -o $@ $<
 
-target/c/sanitized/kungthevi: $(HARNESS) $(LIBRARY) $(HEADERS)
+# the header in C++
+target/c/include: c/entries/include.cc $(LIBRARY) $(HEADERS)
 	@mkdir -p $(@D)
-	$(LIBRARY_CC) $(LIBRARY_SANITIZE) -o $@ $(HARNESS) $(LIBRARY)
-
-target/c/sanitized/entries: $(ENTRIES) $(LIBRARY) $(HEADERS)
-	@mkdir -p $(@D)
-	$(LIBRARY_CC) $(LIBRARY_SANITIZE) -o $@ $(ENTRIES) $(LIBRARY)
-
-target/c/sanitized/compare: $(COMPARE) $(GENERATE) $(SECOND) $(LIBRARY) $(HEADERS)
-	@mkdir -p $(@D)
-	$(LIBRARY_CC) $(LIBRARY_SANITIZE) -Ic/second -o $@ $(COMPARE) $(GENERATE) $(SECOND) $(LIBRARY)
-
-# the example in the header, as it stands there, against the folder that `make lib` leaves
-example: lib
-	@mkdir -p target/c
-	sed -n '/^ \* Example/,/^ \*\//s/^ \*     //p' c/kungthevi.h > target/c/example.c
-	$(LIBRARY_CC) $(CFLAGS) -Itarget/lib -o target/c/example target/c/example.c $(LIBRARY)
-	target/c/example
+	$(LIBRARY_CXX) $(CXXFLAGS) -o $@ $(filter %.cc %.a,$^)
 
 # ---- captures
 
@@ -188,67 +153,85 @@ captures: $(CAPTURES)
 
 target/captures/%: captures/%.records captures/assemble.py
 	@mkdir -p $(@D)
-	python3 captures/assemble.py $< > $@.part && mv $@.part $@
+	python3 captures/assemble.py $< > $@
 
-# each capture prints its expected texts: by the proved programs, by the second one, and the fates by the command too
-texts: $(REPLAY) $(FATES) target/c/second target/c/kungthevi captures
-	tools/texts text $(REPLAY)
-	tools/texts text target/c/second
-	tools/texts fates $(FATES)
-	tools/texts fates target/c/second fates
-	tools/texts fates target/c/kungthevi fates
+# ---- tests: tools/tests has the list
 
-# generated captures print the same text by all three programs: 100 of 400 calls by replay, 1,000 of 200 by fates
-alike: $(REPLAY) $(FATES) target/c/kungthevi target/c/second target/c/generate
-	tools/alike replay 100 400
-	tools/alike fates 1000 200
+# all of them, and what they run
+test: tested
+	tools/tests
 
-# the named captures by the definitions
+tested: lib run c sanitized $(COVERED) captures
+
+# those of one group
+entries: target/c/entries target/c/sanitized/entries target/c/include
+example: lib target/c/kungthevi captures
+texts: run target/c/second target/c/sanitized/second captures
+alike: run target/c/kungthevi target/c/second target/c/generate
+harness: target/c/kungthevi target/c/sanitized/kungthevi target/c/second target/c/generate captures
+selftest: target/c/selftest target/c/sanitized/selftest
+entries example texts alike harness selftest paper:
+	tools/tests $@
+
+# the named captures by the definitions: a matter of the checker's, and no test of the C side
 definitions:
+	.ci/setup --check
 	tools/definitions.py
 
-# ---- tests
-
-# the library's entries, as a C programmer meets them
-entries: target/c/entries target/c/include
-	target/c/entries
-	target/c/include
-
-# the command, as its users meet it
-harness: target/c/kungthevi captures
-	c/harness/test target/c/kungthevi
-
-selftest: target/c/selftest
-	target/c/selftest
-
-# what 100 generated captures of 400 calls reach
-coverage: target/c/coverage
-	target/c/coverage
+# lines and branches of the second program that generated captures and the comparison reach
+coverage: $(COVERED) target/c/generate
+	tools/coverage.py
 
 # N calls to the library and to the second program, from the captures of SEED on
+N = 1000000
+SEED = 1
 compare: target/c/compare
 	@mkdir -p target/differences
 	target/c/compare -d target/differences $(N) $(SEED)
 
-ifdef EMULATED
-bench instructions:
-	@echo 'make $@: nothing to measure on $(MACHINE): the library is for x86-64, and times under an emulator say nothing' >&2
-	@exit 1
-else
+# ---- times
+
 # calls a second and MB/s beside the second program's
-bench: target/c/bench target/c/second target/c/kungthevi $(REPLAY)
+bench: target/c/bench target/c/kungthevi $(TIMED) $(REPLAY)
 	@mkdir -p target/bench
-	target/c/bench target/bench target/c/second $(REPLAY) 'target/c/kungthevi replay'
+ifdef EMULATED
+	@echo 'All is compiled for x86-64 and runs under the emulator here: compare ratios with those of other such runs, and no times.'
+endif
+	target/c/bench target/bench $(TIMED) $(REPLAY) 'target/c/kungthevi replay'
 
 # instructions a call takes; needs valgrind
+ifdef EMULATED
+instructions:
+	@echo 'make $@: nothing to count on $(MACHINE): the library is for x86-64' >&2; exit 1
+else
 instructions: target/c/bench
 	@mkdir -p target/bench
 	c/bench/instructions target/c/bench target/bench
 endif
 
-# what each row of docs/PAPER.md names is in the place that the row gives
-paper:
-	python3 tools/paper.py
+# ---- installing
+
+# Files are put THERE, to be used in their PLACE: below DESTDIR a package is made of them.
+VERSION = 0.1.0
+PREFIX = /usr/local
+PLACE = $(abspath $(PREFIX))
+THERE = $(DESTDIR)$(PLACE)
+FILLED_IN = sed -e 's|@PREFIX@|$(PLACE)|' -e 's|@VERSION@|$(VERSION)|'
+
+# Where the command is a script for the emulator, its program goes beside it.
+COMMAND = kungthevi $(if $(EMULATED),kungthevi.x86-64)
+
+install: lib target/c/kungthevi
+	install -D -t $(THERE)/bin $(COMMAND:%=target/c/%)
+	install -D -m 644 -t $(THERE)/include target/lib/kungthevi.h
+	install -D -m 644 -t $(THERE)/lib $(LIBRARY)
+	$(FILLED_IN) c/install/kungthevi.pc.in | install -D -m 644 /dev/stdin $(THERE)/lib/pkgconfig/kungthevi.pc
+	$(FILLED_IN) c/install/kungthevi.1.in | install -D -m 644 /dev/stdin $(THERE)/share/man/man1/kungthevi.1
+	$(FILLED_IN) c/install/kungthevi.3.in | install -D -m 644 /dev/stdin $(THERE)/share/man/man3/kungthevi.3
+
+uninstall:
+	rm -f $(COMMAND:%=$(THERE)/bin/%) $(THERE)/include/kungthevi.h $(THERE)/lib/libkungthevi.a \
+		$(THERE)/lib/pkgconfig/kungthevi.pc $(THERE)/share/man/man1/kungthevi.1 $(THERE)/share/man/man3/kungthevi.3
 
 clean:
 	rm -rf target

@@ -4,7 +4,8 @@
 For each capture it writes a claim that what the calls come to by `step` (crates/paper), from a fresh table and with 128
 bytes of room, prints as NAME.text (crates/replay_transcript), byte by byte, and where there is a NAME.fates another, that the same
 calls print as that (crates/fates_book, fates_register, fates_report); and has the checker compute them. The claims stand in a crate of their
-own below target/definitions/. The last line is 'N passed, M failed'; exit status 1 if a claim fails.
+own below target/definitions/, and what is proved already in target/ serves them. The last line is 'N passed, M failed'; exit
+status 1 if a claim fails.
 """
 import importlib.util
 import pathlib
@@ -30,7 +31,7 @@ use Rattle.octets.specs.Runs.{over, sameBytes}
 use Rattle.paper.specs.Base.{Table, fresh}
 use Rattle.paper.specs.RecordsOut.{allBytes}
 use Rattle.paper.specs.Refusals.{Outcome}
-use Rattle.paper.specs.Step.{step}
+use Rattle.paper.specs.Step.{roomSize, step}
 use Rattle.replay_transcript.specs.Transcript.{title, totals}
 use Rattle.fates_book.specs.declared.Line.{Line}
 use Rattle.fates_book.specs.Lines.{linesOf as saidBy}
@@ -46,19 +47,19 @@ abbrev number : Outcome → ℕ
 number o = pick (ltb 0 (o .refusal)) (o .refusal * 65536) (length (allBytes (o .records)) + o .opened * 16777216)
 
 abbrev printed : ℕ → Outcome → List ℕ
-printed n o = callText n (number o) (over (allBytes (o .records)) (replicate 128 0))
+printed n o = callText n (number o) (over (allBytes (o .records)) (replicate roomSize 0))
 
 -- from a table on, with so many calls made and so many of them refused; the last line
 abbrev replays : Table → ℕ → ℕ → List Call → List ℕ → Bool
 replays t n m [] end = sameBytes (totals n m) end
 replays t n m (call r w ∷ l) end =
-    both (sameBytes (printed (n + 1) (step t r 128)) w)
-    (replays (step t r 128 .table) (n + 1) (m + oneIf (ltb 0 (step t r 128 .refusal))) l end)
+    both (sameBytes (printed (n + 1) (step t r roomSize)) w)
+    (replays (step t r roomSize .table) (n + 1) (m + oneIf (ltb 0 (step t r roomSize .refusal))) l end)
 
 -- what the records of calls say, from a table on
 abbrev said : Table → List (List ℕ) → List Line
 said t [] = []
-said t (r ∷ l) = saidBy r (step t r 128 .opened) (allBytes (step t r 128 .records)) ++ said (step t r 128 .table) l
+said t (r ∷ l) = saidBy r (step t r roomSize .opened) (allBytes (step t r roomSize .records)) ++ said (step t r roomSize .table) l
 
 abbrev account : List Line → List ℕ
 account ys = heading ++ allText ys blank ++ closing (enteredAll ys blank)
@@ -152,6 +153,8 @@ def write_crate(claims):
         if not link.is_symlink() or link.readlink() != TOP / "crates" / name:
             link.unlink(missing_ok=True)
             link.symlink_to(TOP / "crates" / name)
+    if not (HERE / "target").exists():
+        (HERE / "target").symlink_to("..")
     lines = [line for line in (TOP / "crates.txt").read_text().splitlines() if line.split(":")[0] in BELOW]
     (HERE / "crates.txt").write_text("\n".join(lines + ["replayed: " + " ".join(BELOW)]) + "\n")
     (crate / "src/lib.rt").write_text("// Claims alone.\n")
@@ -169,7 +172,7 @@ def main():
     claims = dict(claims_by_file())
     names = list(claims)
     write_crate(claims)
-    checked = subprocess.run(["rt", "check", "replayed"], cwd=HERE, capture_output=True, text=True)
+    checked = subprocess.run(["flock", TOP / "target", "rt", "check", "replayed"], cwd=HERE, capture_output=True, text=True)
     output = checked.stdout + checked.stderr
     refused = set(re.findall(r"Claims\.antt:\d+:\d+: error: `([^`]+)`", output))
     failed = [name for name in names if not claims[name] or name in refused]

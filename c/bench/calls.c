@@ -2,6 +2,7 @@
 #include "calls.h"
 
 #include "../generate/array.h"
+#include "../kungthevi.h"
 #include "clock.h"
 #include "compare.h"
 #include "fill.h"
@@ -53,8 +54,8 @@ static bool compare_all(struct capture *capture)
 
 static double seconds_of_calls(const struct caller *caller, const struct capture *capture)
 {
-    uint8_t table[PROVIDER_TABLE];
-    uint8_t room[PROVIDER_ROOM];
+    uint8_t table[KUNGTHEVI_TABLE_SIZE];
+    uint8_t room[KUNGTHEVI_ROOM_SIZE];
     (void)caller->fresh(table, sizeof table);
     double start = clock_processor();
     for (size_t call = 0; call < capture->calls; call++)
@@ -65,7 +66,7 @@ static double seconds_of_calls(const struct caller *caller, const struct capture
 
 static double seconds_of_run(const struct capture *capture)
 {
-    uint8_t table[PROVIDER_TABLE];
+    uint8_t table[KUNGTHEVI_TABLE_SIZE];
     double start = clock_processor();
     (void)inner_run(table, sizeof table, capture->bytes, capture_size(capture));
     return clock_processor() - start;

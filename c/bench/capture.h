@@ -13,7 +13,7 @@ enum { CAPTURE_CALLS = 20000 };
 struct capture {
     size_t calls;
     size_t starts[CAPTURE_CALLS + 1]; /* of each record, and behind the last one */
-    uint8_t bytes[CAPTURE_CALLS * RECORD_SIZE];
+    uint8_t bytes[CAPTURE_CALLS * LONGEST_RECORD];
 };
 
 void capture_clear(struct capture *capture);

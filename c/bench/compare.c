@@ -9,33 +9,35 @@
 #include "inner.h"
 #include "provider.h"
 
+enum { ERROR_ACK = 0x05 };
+
 /* What is lent to a caller, and the number it returned last. */
 struct loan {
     uint32_t answer;
-    uint8_t table[PROVIDER_TABLE];
-    uint8_t room[PROVIDER_ROOM];
+    uint8_t table[KUNGTHEVI_TABLE_SIZE];
+    uint8_t room[KUNGTHEVI_ROOM_SIZE];
 };
 
 static void start(struct loan loans[CALLERS])
 {
     memset(loans, 0, CALLERS * sizeof *loans);
     for (unsigned i = 0; i < CALLERS; i++)
-        loans[i].answer = callers[i].fresh(loans[i].table, PROVIDER_TABLE);
+        loans[i].answer = callers[i].fresh(loans[i].table, sizeof loans[i].table);
 }
 
 static void make_call(struct loan loans[CALLERS], const uint8_t *record, size_t size)
 {
     for (unsigned i = 0; i < CALLERS; i++) {
         struct loan *loan = &loans[i];
-        loan->answer = callers[i].call(loan->table, PROVIDER_TABLE, record, size, loan->room, PROVIDER_ROOM);
+        loan->answer = callers[i].call(loan->table, sizeof loan->table, record, size, loan->room, sizeof loan->room);
     }
 }
 
 static bool is_alike(const struct loan *left, const struct loan *right)
 {
     return left->answer == right->answer &&
-           memcmp(left->table, right->table, PROVIDER_TABLE) == 0 &&
-           memcmp(left->room, right->room, PROVIDER_ROOM) == 0;
+           memcmp(left->table, right->table, sizeof left->table) == 0 &&
+           memcmp(left->room, right->room, sizeof left->room) == 0;
 }
 
 /* A caller whose loan is not as that of the second program, or CALLERS. */
@@ -70,7 +72,7 @@ static void sum_after(struct summary *summary, const struct loan *loan)
 /* Whether inner, from a table that is not fresh, refuses as many calls and leaves the same table. */
 static bool is_run_alike(const struct capture *capture, uint64_t refused, const uint8_t *table)
 {
-    uint8_t own[PROVIDER_TABLE];
+    uint8_t own[KUNGTHEVI_TABLE_SIZE];
     memset(own, 0xff, sizeof own);
     return inner_run(own, sizeof own, capture->bytes, capture_size(capture)) == refused &&
            memcmp(own, table, sizeof own) == 0;

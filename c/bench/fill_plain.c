@@ -23,7 +23,7 @@ struct message {
 
 static void add_message(struct capture *capture, unsigned stream, struct message message)
 {
-    uint8_t record[RECORD_SIZE] = { 'P', (uint8_t)stream, message.length };
+    uint8_t record[LONGEST_RECORD] = { 'P', (uint8_t)stream, message.length };
     for (unsigned i = 0; i < LENGTH_OF(message.fields); i++)
         put32(record + AT_BLOCK + 4 * i, message.fields[i]);
     capture_add(capture, record);
@@ -31,7 +31,7 @@ static void add_message(struct capture *capture, unsigned stream, struct message
 
 static void add_ppa(struct capture *capture)
 {
-    uint8_t record[RECORD_SIZE] = { 'G' };
+    uint8_t record[LONGEST_RECORD] = { 'G' };
     put32(record + AT_PPA, PPA_NUMBER);
     memcpy(record + AT_PPA_MAC, mac, MAC_SIZE);
     capture_add(capture, record);
@@ -39,7 +39,7 @@ static void add_ppa(struct capture *capture)
 
 static void add_call(struct capture *capture, unsigned sap)
 {
-    uint8_t record[RECORD_SIZE] = { 'I' };
+    uint8_t record[LONGEST_RECORD] = { 'I' };
     put32(record + AT_PPA, PPA_NUMBER);
     memcpy(record + AT_CALLED, mac, MAC_SIZE);
     record[AT_CALLED + MAC_SIZE] = (uint8_t)sap;
@@ -49,14 +49,14 @@ static void add_call(struct capture *capture, unsigned sap)
 
 static void add_withdrawal(struct capture *capture, unsigned stream, uint32_t number)
 {
-    uint8_t record[RECORD_SIZE] = { 'W', (uint8_t)stream };
+    uint8_t record[LONGEST_RECORD] = { 'W', (uint8_t)stream };
     put32(record + AT_WITHDRAWN_NUMBER, number);
     capture_add(capture, record);
 }
 
 static void add_peer_gone(struct capture *capture, unsigned stream)
 {
-    const uint8_t record[RECORD_SIZE] = { 'D', (uint8_t)stream };
+    const uint8_t record[LONGEST_RECORD] = { 'D', (uint8_t)stream };
     capture_add(capture, record);
 }
 
@@ -65,7 +65,7 @@ static void add_peer_gone(struct capture *capture, unsigned stream)
 /* Opens the stream, which is the lowest free one, and binds it in mode 1. */
 static void add_bound(struct capture *capture, unsigned stream, unsigned sap, unsigned max_conind)
 {
-    const uint8_t opening[RECORD_SIZE] = { 'O' };
+    const uint8_t opening[LONGEST_RECORD] = { 'O' };
     capture_add(capture, opening);
     add_message(capture, stream, (struct message){ ATTACH_SIZE, { ATTACH_REQ, PPA_NUMBER } });
     add_message(capture, stream, (struct message){

@@ -6,8 +6,8 @@
 #include "../kungthevi.h"
 #include "../second/second.h"
 
-static_assert(PROVIDER_TABLE == KUNGTHEVI_TABLE_SIZE && PROVIDER_TABLE == SECOND_TABLE_SIZE, "one size of table");
-static_assert(PROVIDER_ROOM == KUNGTHEVI_ROOM_SIZE && PROVIDER_ROOM == SECOND_ROOM_SIZE, "one size of room");
+static_assert(SECOND_TABLE_SIZE == KUNGTHEVI_TABLE_SIZE, "a table fits every provider");
+static_assert(SECOND_ROOM_SIZE == KUNGTHEVI_ROOM_SIZE, "a room fits every provider");
 
 const struct caller callers[CALLERS] = {
     [LIBRARY] = { kungthevi_fresh, kungthevi_call },

@@ -5,12 +5,6 @@
 #include <stddef.h>
 #include <stdint.h>
 
-/* A table and a room fit every provider. */
-enum {
-    PROVIDER_TABLE = 760,
-    PROVIDER_ROOM = 128
-};
-
 /* Callers are called record by record; inner runs over a whole capture. Ratios are to the second program. */
 enum {
     LIBRARY,

@@ -17,7 +17,7 @@ struct originals {
 /* A form has at most two records, or a record and as much junk, for each original one. */
 struct capture {
     size_t size;
-    uint8_t bytes[2 * MOST_RECORDS * RECORD_SIZE];
+    uint8_t bytes[2 * MOST_RECORDS * LONGEST_RECORD];
 };
 
 /* The capture of the seed with so many records, at most MOST_RECORDS. */

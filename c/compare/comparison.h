@@ -22,9 +22,6 @@ struct comparison {
     struct counts counts;
 };
 
-/* Compares the captures of the seeds from the one given on, until enough calls are compared or differ. */
-void comparison_run(struct comparison *comparison);
-
 /* Whether enough calls are compared, or so many differ that more would tell nothing. */
 bool comparison_is_over(const struct comparison *comparison);
 

@@ -3,7 +3,6 @@
 
 #include "../generate/image.h"
 #include "../generate/record.h"
-#include "layout.h"
 
 /* One of the open numbers of the table, each as likely as another, or 0 if it has none. */
 static uint32_t draw_open_number(struct dice *dice, const uint8_t *image)

@@ -48,9 +48,10 @@ static void harm_any(struct dice *dice, uint8_t *image)
     harm_byte(dice, image + dice_below(dice, KUNGTHEVI_TABLE_SIZE));
 }
 
+/* What stands before the places for PPAs. */
 static void harm_header(struct dice *dice, uint8_t *image)
 {
-    harm_byte(dice, image + dice_below(dice, HEADER_SIZE));
+    harm_byte(dice, image + dice_below(dice, AT_PPA_PLACES));
 }
 
 static void harm_ppa(struct dice *dice, uint8_t *image)
@@ -130,12 +131,13 @@ static harm *const harms[] = {
 
 /* --- The image */
 
+const size_t wrong_lengths[WRONG_LENGTHS] = { 0, 1, KUNGTHEVI_TABLE_SIZE - 1, KUNGTHEVI_TABLE_SIZE + 1, LARGEST_TABLE };
+
 static size_t draw_wrong_length(struct dice *dice)
 {
-    static const size_t lengths[] = { 0, 1, KUNGTHEVI_TABLE_SIZE - 1, KUNGTHEVI_TABLE_SIZE + 1, LARGEST_TABLE };
     uint32_t any = dice_below(dice, LARGEST_TABLE);
-    uint32_t drawn = dice_below(dice, LENGTH_OF(lengths) + 1);
-    return drawn < LENGTH_OF(lengths) ? lengths[drawn] : any;
+    uint32_t drawn = dice_below(dice, WRONG_LENGTHS + 1);
+    return drawn < WRONG_LENGTHS ? wrong_lengths[drawn] : any;
 }
 
 size_t damage_draw(const struct kept *kept, struct dice *dice, uint8_t image[LARGEST_TABLE])

@@ -6,9 +6,15 @@
 #include <stdint.h>
 
 #include "../generate/dice.h"
-#include "layout.h"
+#include "provider.h"
 
-enum { MOST_KEPT = 32 };
+enum {
+    MOST_KEPT = 32,
+    WRONG_LENGTHS = 5
+};
+
+/* Lengths of images that a provider may take for the right one. */
+extern const size_t wrong_lengths[WRONG_LENGTHS];
 
 struct kept {
     unsigned count;

@@ -71,10 +71,21 @@ struct verdict judge_call(const struct lending *lending, const struct outcome ou
     return (struct verdict){ "the two", judge_together(lending, outcomes) };
 }
 
+static const char *judge_fresh_alone(const struct lending *lending, const struct outcome *outcome)
+{
+    if (outcome->trespass != NULL)
+        return outcome->trespass;
+    if (outcome->answer != 0 && !is_table_kept(lending, outcome))
+        return "refused, but changed the table";
+    return NULL;
+}
+
 struct verdict judge_fresh(const struct lending *lending, const struct outcome outcomes[PROVIDERS])
 {
-    for (unsigned i = 0; i < PROVIDERS; i++)
-        if (outcomes[i].trespass != NULL)
-            return (struct verdict){ providers[i].name, outcomes[i].trespass };
+    for (unsigned i = 0; i < PROVIDERS; i++) {
+        const char *what = judge_fresh_alone(lending, &outcomes[i]);
+        if (what != NULL)
+            return (struct verdict){ providers[i].name, what };
+    }
     return (struct verdict){ "the two", judge_together(lending, outcomes) };
 }

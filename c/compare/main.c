@@ -8,7 +8,7 @@
 #include <string.h>
 
 #include "../generate/number.h"
-#include "comparison.h"
+#include "seeds.h"
 
 enum {
     ALL_ALIKE = 0,
@@ -36,7 +36,7 @@ int main(int argc, char **argv)
         fprintf(stderr, "usage: compare [-d DIR] [CALLS [SEED]]\n");
         return BAD_ARGUMENTS;
     }
-    comparison_run(&comparison);
+    seeds_compare(&comparison);
     counts_print(&comparison.counts);
     bool reached = comparison.counts.calls < ENOUGH_FOR_ALL || counts_are_full(&comparison.counts);
     return reached && comparison.counts.differences == 0 ? ALL_ALIKE : NOT_ALIKE;

@@ -69,7 +69,7 @@ static void cut(struct mutation *mutation)
 static void put_junk_before(struct mutation *mutation)
 {
     struct record junk;
-    junk.size = 1 + dice_below(mutation->dice, RECORD_SIZE);
+    junk.size = 1 + dice_below(mutation->dice, LONGEST_RECORD);
     for (size_t i = 0; i < junk.size; i++)
         junk.bytes[i] = (uint8_t)dice_any(mutation->dice);
     capture_add(mutation->form, &junk);

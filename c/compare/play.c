@@ -75,7 +75,7 @@ static void fill_room(struct play *play)
 static size_t draw_record_size(const struct play *play, const uint8_t *record, size_t rest)
 {
     size_t whole = record_size_of_kind(record[AT_KIND]);
-    size_t most = RECORD_SIZE + dice_below(play->dice, RECORD_SIZE);
+    size_t most = LONGEST_RECORD + dice_below(play->dice, LONGEST_RECORD);
     if (dice_one_in(play->dice, 3) && whole != 0)
         most = whole;
     return most < rest ? most : rest;
@@ -136,25 +136,36 @@ static void move_counter(struct play *play)
 
 /* --- The course of a form */
 
-/* Both begin with a fresh table, made of any bytes. Returns whether they agree. */
-static bool start(struct play *play)
+/* Both make a fresh table out of so many bytes, whatever they are, or refuse to. Returns whether they agree. */
+static bool fresh_both(struct play *play, size_t table_size, struct outcome outcomes[PROVIDERS])
 {
-    struct outcome outcomes[PROVIDERS];
+    uint8_t table[LARGEST_TABLE];
     struct lending lending = {
-        .table = play->table,
-        .table_size = sizeof play->table,
+        .table = table,
+        .table_size = table_size,
         .record = play->room,
         .room = play->room,
     };
-    fill_room(play);
-    memset(play->table, play->room[0], sizeof play->table);
+    memset(table, play->room[0], sizeof table);
     for (unsigned i = 0; i < PROVIDERS; i++)
         provider_fresh(&providers[i], &lending, &outcomes[i]);
     struct verdict verdict = judge_fresh(&lending, outcomes);
-    if (verdict.what != NULL) {
-        tell_difference(play, &lending, outcomes, verdict, "it was the making of a fresh table");
+    if (verdict.what == NULL)
+        return true;
+    tell_difference(play, &lending, outcomes, verdict, "it was the making of a fresh table");
+    return false;
+}
+
+/* Both begin with a fresh table, after all the wrong lengths. Returns whether they agree. */
+static bool start(struct play *play)
+{
+    struct outcome outcomes[PROVIDERS];
+    fill_room(play);
+    for (size_t i = 0; i < WRONG_LENGTHS; i++)
+        if (!fresh_both(play, wrong_lengths[i], outcomes))
+            return false;
+    if (!fresh_both(play, KUNGTHEVI_TABLE_SIZE, outcomes))
         return false;
-    }
     memcpy(play->table, outcomes[LIBRARY].table, sizeof play->table);
     damage_keep(&play->comparison->kept, play->dice, play->table);
     return true;

@@ -5,7 +5,12 @@
 #include <stddef.h>
 #include <stdint.h>
 
-#include "layout.h"
+#include "../kungthevi.h"
+
+enum {
+    LARGEST_TABLE = 1024, /* longer than a table, as wrong lengths are lent too */
+    LARGEST_ROOM = 200
+};
 
 struct provider {
     const char *name;

@@ -1,8 +1,7 @@
 /* The number that a call returns, taken apart by the header's macros. */
+#include "../layout.h"
 #include "groups.h"
 #include "stage.h"
-
-enum { STREAMS = 16 };
 
 static void check_openings(struct checks *checks)
 {
@@ -38,7 +37,7 @@ void run_answers(struct checks *checks)
     stage_set(&stage, "");
     check_answer(checks, "a new PPA", stage_call(&stage, "G 00000001 020000000001"), 0, 0);
     stage_set(&stage, LISTENER CALL);
-    check_answer(checks, "a denial", stage_call(&stage, "P 00 0c 00000013 00000000 00000001"), 0, 10 + 99);
-    check_answer(checks, "an UNBIND_REQ", stage_call(&stage, "P 00 04 00000002"), 0, 2 + 99);
+    check_answer(checks, "a denial", stage_call(&stage, "P 00 0c 00000013 00000000 00000001"), 0, 10 + LONGEST_RECORD);
+    check_answer(checks, "an UNBIND_REQ", stage_call(&stage, "P 00 04 00000002"), 0, 2 + LONGEST_RECORD);
     check_answer(checks, "an idle stream's close", stage_call(&stage, "X 00"), 0, 0);
 }

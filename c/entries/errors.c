@@ -43,12 +43,12 @@ static void put_error_ack(const char *request, uint32_t code, uint8_t record[LON
     uint8_t asked[LONGEST_RECORD];
     (void)text_record(&request, asked);
     memset(record, 0, LONGEST_RECORD);
-    record[0] = 'C';
-    record[1] = asked[1];
-    record[2] = 16;
-    record[3 + 3] = 0x05;
-    memcpy(record + 3 + 4, asked + 3, 4);
-    record[3 + 11] = (uint8_t)code;
+    record[AT_KIND] = 'C';
+    record[AT_STREAM] = asked[AT_STREAM];
+    record[AT_LENGTH] = 16;
+    record[AT_BLOCK + 3] = 0x05;
+    memcpy(record + AT_BLOCK + 4, asked + AT_BLOCK, 4);
+    record[AT_BLOCK + 11] = (uint8_t)code;
 }
 
 void run_errors(struct checks *checks)

@@ -1,6 +1,7 @@
 /* Runs of no bytes: a pointer to none, or NULL. */
 #include <stddef.h>
 
+#include "../layout.h"
 #include "groups.h"
 #include "stage.h"
 
@@ -26,7 +27,7 @@ static const struct lent lents[] = {
 /* Whether an INFO_REQ is answered with the refusal and nothing else, or served if there is none. */
 static bool is_answered(const struct lent *lent, bool null)
 {
-    static const uint8_t record[99] = { 'P', 0, 4 };
+    static const uint8_t record[LONGEST_RECORD] = { 'P', 0, 4 };
     struct stage stage;
     stage_set(&stage, TWO_STREAMS);
     stage_prepare(&stage);

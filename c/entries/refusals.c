@@ -1,4 +1,5 @@
 /* Every refusal number of the header, by a call that gives it, and the order of the first six. */
+#include "../layout.h"
 #include "groups.h"
 #include "stage.h"
 
@@ -49,12 +50,12 @@ static void check_refusal(struct checks *checks, const struct refusal *refusal)
     check(checks, stage_is_kept(&stage), "%s by %s leaves all as it was", refusal->name, refusal->record);
 }
 
-/* The byte that says whether there was an opening: a sound table has 0 or 1 there. */
+/* A sound table has 0 or 1 there. */
 static void check_damaged(struct checks *checks, const char *record, size_t room_len)
 {
     struct stage stage;
     stage_set(&stage, TWO_STREAMS);
-    stage.table[2] = 2;
+    stage.table[AT_OPENING] = 2;
     uint32_t answer = stage_call_in_room(&stage, record, room_len);
     check(checks, answer == (uint32_t)KUNGTHEVI_NOT_SOUND << 16 && stage_is_kept(&stage),
           "KUNGTHEVI_NOT_SOUND by a damaged table, %s and a room of %zu bytes", record, room_len);

@@ -1,4 +1,5 @@
 /* Rooms of each size from 0 to 300: KUNGTHEVI_ROOM_SIZE is the smallest that is served, and the rest of it stays. */
+#include "../layout.h"
 #include "groups.h"
 #include "stage.h"
 
@@ -11,8 +12,8 @@ struct use {
 
 static const struct use uses[] = {
     { "an opening", TWO_PPAS, "O", 0 },
-    { "INFO_REQ", LISTENER, INFO, 99 },
-    { "an accept", LISTENER CALL, ACCEPT("00000001", "00000000"), 6 + 99 },
+    { "INFO_REQ", LISTENER, INFO, LONGEST_RECORD },
+    { "an accept", LISTENER CALL, ACCEPT("00000001", "00000000"), 6 + LONGEST_RECORD },
     { "a close with two open", LISTENER CALL CALL, "X 00", 2 * 10 },
 };
 

@@ -8,7 +8,7 @@
 #include <stddef.h>
 #include <stdint.h>
 
-enum { LONGEST_RECORD = 99 };
+#include "../layout.h"
 
 /* Reads the record at the start of the text, and moves the text on to the next. Returns its size, 0 at the end. */
 size_t text_record(const char **text, uint8_t record[LONGEST_RECORD]);

@@ -144,7 +144,7 @@ static void make_next(struct generator *generator, struct record *record)
 
 bool generate_next(struct generator *generator, struct record *record)
 {
-    uint8_t room[ROOM_SIZE];
+    uint8_t room[SECOND_ROOM_SIZE];
     if (generator->made == generator->calls)
         return false;
     generator->made++;

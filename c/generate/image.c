@@ -1,29 +1,11 @@
 #include "image.h"
 
-#include "protocol.h"
 #include "record.h"
 
-enum {
-    AT_FREE_MASK = 0,
-    AT_OPENING = 2,
-    AT_PPA_COUNT = 3,
-    AT_COUNTER = 4,
-    AT_PPA_PLACES = 8,
-    PPA_PLACE_SIZE = 4 + MAC_SIZE,
-    AT_SLOTS = 88,
-    SLOT_SIZE = 42
-};
-
-/* Offsets in a slot. */
-enum {
-    AT_STATE = 0,
-    AT_MODE = 1,
-    AT_SAP = 2,
-    AT_SLOT_PPA = 4,
-    AT_GRANTED = 8,
-    AT_INDICATIONS = 9,
-    AT_NUMBERS = 10
-};
+static const uint8_t *ppa_place(const uint8_t *image, unsigned place)
+{
+    return image + AT_PPA_PLACES + PPA_PLACE_SIZE * place;
+}
 
 static const uint8_t *slot(const uint8_t *image, unsigned stream)
 {
@@ -43,11 +25,6 @@ unsigned image_open_streams(const uint8_t *image)
     return count;
 }
 
-bool image_remembers_opening(const uint8_t *image)
-{
-    return image[AT_OPENING] != 0;
-}
-
 uint32_t image_counter(const uint8_t *image)
 {
     return get32(image + AT_COUNTER);
@@ -60,12 +37,12 @@ unsigned image_ppas(const uint8_t *image)
 
 uint32_t image_ppa_number(const uint8_t *image, unsigned place)
 {
-    return get32(image + AT_PPA_PLACES + PPA_PLACE_SIZE * place);
+    return get32(ppa_place(image, place) + AT_PLACE_NUMBER);
 }
 
 const uint8_t *image_ppa_mac(const uint8_t *image, unsigned place)
 {
-    return image + AT_PPA_PLACES + PPA_PLACE_SIZE * place + 4;
+    return ppa_place(image, place) + AT_PLACE_MAC;
 }
 
 int image_find_ppa(const uint8_t *image, uint32_t number)
@@ -108,7 +85,7 @@ unsigned image_indications(const uint8_t *image, unsigned stream)
 
 uint32_t image_number(const uint8_t *image, unsigned stream, unsigned place)
 {
-    return get32(slot(image, stream) + AT_NUMBERS + 4 * place);
+    return get32(slot(image, stream) + AT_NUMBERS + NUMBER_SIZE * place);
 }
 
 int image_find_number(const uint8_t *image, unsigned stream, uint32_t number)
@@ -116,21 +93,5 @@ int image_find_number(const uint8_t *image, unsigned stream, uint32_t number)
     for (unsigned place = 0; place < image_indications(image, stream); place++)
         if (image_number(image, stream, place) == number)
             return (int)place;
-    return -1;
-}
-
-int image_find_holder(const uint8_t *image, uint32_t number)
-{
-    for (unsigned stream = 0; stream < STREAMS; stream++)
-        if (image_find_number(image, stream, number) >= 0)
-            return (int)stream;
-    return -1;
-}
-
-int image_find_listener(const uint8_t *image, uint32_t ppa, unsigned sap)
-{
-    for (unsigned stream = 0; stream < STREAMS; stream++)
-        if (image_granted(image, stream) > 0 && image_ppa(image, stream) == ppa && image_sap(image, stream) == sap)
-            return (int)stream;
     return -1;
 }

@@ -7,7 +7,6 @@
 
 bool image_is_open(const uint8_t *image, unsigned stream);
 unsigned image_open_streams(const uint8_t *image);
-bool image_remembers_opening(const uint8_t *image);
 uint32_t image_counter(const uint8_t *image);
 
 unsigned image_ppas(const uint8_t *image);
@@ -29,11 +28,5 @@ uint32_t image_number(const uint8_t *image, unsigned stream, unsigned place);
 
 /* The place of an open number in the stream's list, or -1. */
 int image_find_number(const uint8_t *image, unsigned stream, uint32_t number);
-
-/* The stream on which the number is open, or -1. */
-int image_find_holder(const uint8_t *image, uint32_t number);
-
-/* The stream that listens for the PPA and SAP, or -1: one bound with a granted count over 0. */
-int image_find_listener(const uint8_t *image, uint32_t ppa, unsigned sap);
 
 #endif

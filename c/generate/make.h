@@ -5,7 +5,7 @@
 #ifndef GENERATE_MAKE_H
 #define GENERATE_MAKE_H
 
-#include "generate.h"
+#include "generator.h"
 
 typedef bool maker(struct generator *generator, uint32_t subject, struct record *record);
 

@@ -14,13 +14,13 @@ bool make_for_no_stream(struct generator *generator, uint32_t subject, struct re
     uint8_t kind = (uint8_t)kinds[dice_below(&generator->dice, sizeof kinds - 1)];
     message_start(generator, record, 0, dice_below(&generator->dice, 0x22));
     if (!record_is_message(&kind))
-        pick_bytes(generator, record->bytes + AT_STREAM, RECORD_SIZE - AT_STREAM);
+        pick_bytes(generator, record->bytes + AT_STREAM, LONGEST_RECORD - AT_STREAM);
     else if (dice_one_in(&generator->dice, 2))
         message_cut(record, dice_below(&generator->dice, 256));
     else if (dice_one_in(&generator->dice, 2))
         message_cut(record, dice_below(&generator->dice, CODE_SIZE));
     else if (dice_one_in(&generator->dice, 2))
-        record->bytes[RECORD_SIZE - 1] = 1;
+        record->bytes[LONGEST_RECORD - 1] = 1;
     record->bytes[AT_KIND] = kind;
     record->bytes[AT_STREAM] = (uint8_t)pick_no_stream(generator);
     record->size = record_size_of_kind(kind);
@@ -54,9 +54,9 @@ static void make_unknown_kind(struct generator *generator, struct record *record
     uint8_t kind = (uint8_t)kinds[dice_below(&generator->dice, sizeof kinds - 1)];
     if (dice_one_in(&generator->dice, 3))
         kind = (uint8_t)dice_any(&generator->dice);
-    pick_bytes(generator, record->bytes, RECORD_SIZE);
+    pick_bytes(generator, record->bytes, LONGEST_RECORD);
     record->bytes[AT_KIND] = record_size_of_kind(kind) == 0 ? kind : 'F';
-    record->size = 1 + dice_below(&generator->dice, RECORD_SIZE);
+    record->size = 1 + dice_below(&generator->dice, LONGEST_RECORD);
 }
 
 void make_end_of_reading(struct generator *generator, struct record *record)

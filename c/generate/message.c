@@ -7,7 +7,7 @@
 void message_start(struct generator *generator, struct record *record, unsigned stream, uint32_t code)
 {
     memset(record->bytes, 0, sizeof record->bytes);
-    record->size = RECORD_SIZE;
+    record->size = LONGEST_RECORD;
     record->bytes[AT_KIND] = dice_one_in(&generator->dice, 4) ? 'C' : 'P';
     record->bytes[AT_STREAM] = (uint8_t)stream;
     record->bytes[AT_LENGTH] = CODE_SIZE;

@@ -2,7 +2,7 @@
 #ifndef GENERATE_MESSAGE_H
 #define GENERATE_MESSAGE_H
 
-#include "generate.h"
+#include "generator.h"
 
 /* A message of kind P or C with the code and a block of zeros behind it, L 4. */
 void message_start(struct generator *generator, struct record *record, unsigned stream, uint32_t code);

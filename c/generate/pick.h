@@ -2,7 +2,7 @@
 #ifndef GENERATE_PICK_H
 #define GENERATE_PICK_H
 
-#include "generate.h"
+#include "generator.h"
 
 /* An open stream in one of the states, or -1. Each state that occurs is as likely as another. */
 int pick_stream(struct generator *generator, unsigned states);

@@ -1,16 +1,8 @@
-/* The numbers of the rule paper. */
+/* The numbers of the rule paper, besides those of the layout. */
 #ifndef GENERATE_PROTOCOL_H
 #define GENERATE_PROTOCOL_H
 
-enum {
-    STREAMS = 16,
-    PPAS = 8,
-    INDICATIONS = 8, /* open ones that a stream holds at most */
-    MAC_SIZE = 6,
-    ADDRESS_SIZE = 7, /* a MAC, then one byte of SAP */
-    BLOCK_SIZE = 96,
-    ROOM_SIZE = 128
-};
+#include "../layout.h"
 
 /* States of a stream, by the numbers of the paper. */
 enum {
@@ -56,28 +48,6 @@ enum {
     DISCONNECT_REQ = 0x13,
     RESET_REQ = 0x17,
     RESET_RES = 0x19
-};
-
-enum {
-    ERROR_ACK = 0x05,
-    ERROR_ACK_SIZE = 16
-};
-
-/* Error codes of ERROR_ACK. */
-enum {
-    BADADDR = 0x01,
-    ACCESS = 0x02,
-    OUTSTATE = 0x03,
-    BADCORR = 0x05,
-    UNSUPPORTED = 0x07,
-    BADPPA = 0x08,
-    BADPRIM = 0x09,
-    BADQOSTYPE = 0x0b,
-    BADTOKEN = 0x0c,
-    BOUND = 0x0d,
-    NOTSUPPORTED = 0x12,
-    NOAUTO = 0x16,
-    PENDING = 0x1b
 };
 
 /* Offsets of fields in the block of a message. */

@@ -12,7 +12,7 @@ size_t record_size_of_kind(uint8_t kind)
         return 1 + 1;
     case 'P':
     case 'C':
-        return RECORD_SIZE;
+        return LONGEST_RECORD;
     case 'I':
         return 1 + 4 + ADDRESS_SIZE + ADDRESS_SIZE;
     case 'A':

@@ -8,14 +8,8 @@
 
 #include "protocol.h"
 
-enum { RECORD_SIZE = 3 + BLOCK_SIZE }; /* of the longest, a message */
-
-/* Offsets in a record. */
+/* Offsets in records that are not messages. */
 enum {
-    AT_KIND = 0,
-    AT_STREAM = 1, /* in every kind except G, O and I */
-    AT_LENGTH = 2,
-    AT_BLOCK = 3,
     AT_PPA = 1,
     AT_PPA_MAC = 5,
     AT_CALLED = 5,
@@ -28,7 +22,7 @@ enum {
 
 struct record {
     size_t size;
-    uint8_t bytes[RECORD_SIZE];
+    uint8_t bytes[LONGEST_RECORD];
 };
 
 /* The size of a whole record of the kind, or 0 for an unknown kind. */

@@ -1,6 +1,8 @@
 /* CONNECT_REQ, with an address anywhere behind its fixed fields. */
 #include "request.h"
 
+#include <assert.h>
+
 #include "image.h"
 #include "message.h"
 
@@ -25,6 +27,8 @@ static void fill_connect(struct generator *generator, unsigned stream, struct re
     address[MAC_SIZE] &= 0xfe;
     message_finish(generator, record, offset + ADDRESS_SIZE);
 }
+
+static_assert(AT_ACCEPT_QOS_LENGTH == AT_CONNECT_QOS_LENGTH, "one place for both");
 
 void request_spoil_qos(struct generator *generator, unsigned stream, struct record *record)
 {

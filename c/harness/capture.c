@@ -9,9 +9,8 @@
 #include <unistd.h>
 
 #include "../kungthevi.h"
+#include "../layout.h"
 #include "message.h"
-
-enum { LONGEST_RECORD = 99 }; /* a message: kind, stream, L and 96 bytes of block */
 
 static uint64_t bytes_read(const struct capture *capture)
 {

@@ -3,12 +3,11 @@
 
 #include <inttypes.h>
 
+#include "../layout.h"
 #include "captures.h"
 #include "message.h"
 #include "news.h"
 #include "opening.h"
-
-enum { STREAMS = 16 };
 
 struct tally {
     struct opening newest[STREAMS]; /* of each stream */

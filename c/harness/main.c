@@ -67,7 +67,8 @@ static const char help[] =
     "Exit status\n"
     "  0  every record was served\n"
     "  1  some record was refused\n"
-    "  2  bad usage, a FILE that cannot be read, or output that cannot be written\n"
+    "  2  bad usage, a FILE that cannot be read, output that cannot be written, or an answer that\n"
+    "     breaks the rule paper\n"
     "\n"
     "Where standard error is a terminal and standard output is not, it shows how far the reading\n"
     "of a capture over 4 MB has come.\n";

@@ -1,9 +1,9 @@
 /* What a record that a call wrote tells of a connection indication. */
 #include "news.h"
 
-enum { CONNECT_IND = 0x0e, DISCONNECT_IND = 0x14 };
+#include "../layout.h"
 
-enum { AT_LENT_KIND = 0, AT_LENT_STREAM = 1 };
+enum { CONNECT_IND = 0x0e, DISCONNECT_IND = 0x14 };
 
 /* Where the numbers stand in the fields of a written record. */
 enum { AT_CODE = 0, AT_CONNECT_NUMBER = 4, AT_DISCONNECT_NUMBER = 12, AT_ORDER_NUMBER = 0 };
@@ -27,12 +27,12 @@ static struct news news_of_message(const struct record_out *written)
 /* An accept names the carrying stream; the indication is of the stream that the message came from. */
 static struct news news_of_accept(const uint8_t *lent, const struct record_out *written)
 {
-    return (struct news){ lent[AT_LENT_STREAM], record_out_number(written, AT_ORDER_NUMBER), FATE_ACCEPTED };
+    return (struct news){ lent[AT_STREAM], record_out_number(written, AT_ORDER_NUMBER), FATE_ACCEPTED };
 }
 
 static struct news news_of_disconnect(const uint8_t *lent, const struct record_out *written)
 {
-    enum fate fate = lent[AT_LENT_KIND] == 'X' ? FATE_DROPPED : FATE_DENIED;
+    enum fate fate = lent[AT_KIND] == 'X' ? FATE_DROPPED : FATE_DENIED;
     return (struct news){ written->stream, record_out_number(written, AT_ORDER_NUMBER), fate };
 }
 

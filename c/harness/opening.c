@@ -11,7 +11,7 @@ void opening_start(struct opening *opening)
 bool opening_ring(struct opening *opening, uint32_t number)
 {
     uint64_t *open = &opening->counts.fates[FATE_OPEN];
-    if (*open == OPENING_ROOM)
+    if (*open == INDICATIONS)
         return false;
     opening->counts.calls++;
     opening->open[(*open)++] = (struct indication){ .place = opening->counts.calls, .number = number };

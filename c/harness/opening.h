@@ -6,9 +6,8 @@
 #include <stddef.h>
 #include <stdint.h>
 
+#include "../layout.h"
 #include "fate.h"
-
-enum { OPENING_ROOM = 8 }; /* the rule paper grants no stream more open indications */
 
 struct counts {
     uint64_t calls;        /* indications written */
@@ -23,7 +22,7 @@ struct indication {
 struct opening {
     uint64_t ordinal; /* among those of its stream, from 1; 0 if the stream was never opened */
     struct counts counts;
-    struct indication open[OPENING_ROOM]; /* oldest first */
+    struct indication open[INDICATIONS]; /* oldest first */
 };
 
 /* The stream is opened: for the first time, or again. */

@@ -1,15 +1,17 @@
 /* A record that a call wrote into its room. */
 #include "record_out.h"
 
-enum { AT_KIND = 0, AT_STREAM = 1, AT_FIELDS = 2, AT_LENGTH = 2, AT_BLOCK = 3, BLOCK_SIZE = 96 };
+#include "../layout.h"
+
+enum { AT_FIELDS = AT_STREAM + 1 }; /* of a record that is no message */
 
 static size_t size_of_fields(uint8_t kind)
 {
     switch (kind) {
     case 'c':
-        return 7; /* called */
+        return ADDRESS_SIZE; /* called */
     case 'a':
-        return 4; /* correlation */
+        return NUMBER_SIZE; /* correlation */
     case 'd':
         return 4 + 4; /* correlation, reason */
     default:
@@ -23,7 +25,7 @@ struct record_out record_out_read(const uint8_t *bytes)
     if (record.kind == 'P' || record.kind == 'C') {
         record.fields = bytes + AT_BLOCK;
         record.fields_size = bytes[AT_LENGTH];
-        record.size = AT_BLOCK + BLOCK_SIZE;
+        record.size = LONGEST_RECORD;
     } else {
         record.fields = bytes + AT_FIELDS;
         record.fields_size = size_of_fields(record.kind);

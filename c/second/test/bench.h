@@ -14,7 +14,7 @@
 #include <stddef.h>
 #include <stdint.h>
 
-#include "second.h"
+#include "../second.h"
 
 enum {
     GUARD = 13, /* odd, so that table and room aren't both aligned */

@@ -8,7 +8,7 @@
 
 #include "bench.h"
 #include "groups.h"
-#include "second.h"
+#include "../second.h"
 
 static void test_fresh(struct bench *b)
 {

@@ -2,7 +2,7 @@
  * fates.c - tests what the command fates prints. The texts are worked out from
  * the rules of the provider and from the layout of the text.
  */
-#include "fates.h"
+#include "../fates.h"
 
 #include <stdint.h>
 #include <stdio.h>

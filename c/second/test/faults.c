@@ -7,7 +7,7 @@
 #include <string.h>
 
 #include "bench.h"
-#include "fates.h"
+#include "../fates.h"
 #include "groups.h"
 #include "printing.h"
 

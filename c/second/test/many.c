@@ -8,7 +8,7 @@
 
 #include "bench.h"
 #include "callers.h"
-#include "fates.h"
+#include "../fates.h"
 #include "groups.h"
 #include "printing.h"
 

@@ -7,7 +7,7 @@
 #include <stdio.h>
 
 #include "bench.h"
-#include "ending.h"
+#include "../ending.h"
 
 typedef enum ending print_text(FILE *in, FILE *out);
 

@@ -5,7 +5,7 @@
 
 #include "bench.h"
 #include "groups.h"
-#include "second.h"
+#include "../second.h"
 
 static void test_refusal_1(struct bench *b)
 {

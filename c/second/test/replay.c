@@ -6,7 +6,7 @@
 #include "bench.h"
 #include "groups.h"
 #include "printing.h"
-#include "replay.h"
+#include "../replay.h"
 
 static void replays(struct bench *b, const uint8_t *input, size_t size,
                     const char *wanted, const char *what)

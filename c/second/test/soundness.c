@@ -5,7 +5,7 @@
 
 #include "bench.h"
 #include "groups.h"
-#include "second.h"
+#include "../second.h"
 
 /* Whatever the record and the room: 16 is tested first. */
 static void not_lent_soundly(struct bench *b, const char *what)
