@@ -5,7 +5,7 @@ use mathlib.Core.Path.{_≡_, refl}
 use mathlib.Core.Bool.{true, false}
 use mathlib.Core.List.{List, [], _∷_, map}
 use lib.ListN.{replicate}
-use Rattle.paper.specs.Base.{Slot, closed, Table, fresh, streamTotal, macSize}
+use Rattle.paper.specs.Base.{Slot, closed, Table, fresh}
 use Rattle.paper.specs.Correlations.{occurrences}
 use Rattle.paper.specs.Examples.{ppa, streamZero, noneOpened, unattached, attached, boundStream, connecting, ringing}
 use Rattle.paper.specs.Saps.{isSap, isType, asBindAllows, listens}
@@ -19,7 +19,7 @@ abbrev holding : State → ℕ → ℕ → ℕ → ℕ → Stream
 holding state mode sap ppa granted = record { state = state; mode = mode; sap = sap; ppa = record { 0 = ppa }; granted = granted }
 
 abbrev withPpas : List Ppa → Table
-withPpas l = record { remembers = false; counter = 1; ppas = l; slots = replicate streamTotal closed }
+withPpas l = record { remembers = false; counter = 1; ppas = l; slots = replicate 16 closed }
 
 -- two streams, the first two
 abbrev twoStreams : Slot → Slot → Table
@@ -32,7 +32,7 @@ abbrev broken : List Table
 broken =
     -- PPA numbers differ, and are at most 8
     withPpas (ppa ∷ ppa ∷ [])
-    ∷ withPpas (map (λ (n : ℕ). record { number = record { 0 = n }; mac = replicate macSize 2 }) (1 ∷ 2 ∷ 3 ∷ 4 ∷ 5 ∷ 6 ∷ 7 ∷ 8 ∷ 9 ∷ []))
+    ∷ withPpas (map (λ (n : ℕ). record { number = record { 0 = n }; mac = replicate 6 2 }) (1 ∷ 2 ∷ 3 ∷ 4 ∷ 5 ∷ 6 ∷ 7 ∷ 8 ∷ 9 ∷ []))
     -- a closed stream holds nothing
     ∷ twoStreams (record { isOpen = false; stream = holding Unbound 0 0 1 0; waiting = [] }) closed
     -- an open one is attached to a PPA of the table except in 0

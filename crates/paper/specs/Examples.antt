@@ -7,7 +7,7 @@ use mathlib.Core.List.{List, [], _∷_, _++_, map}
 use lib.ListN.{replicate}
 use Rattle.octets.specs.Numbers.{be32}
 use Rattle.octets.specs.Blocks.{flat, pad}
-use Rattle.paper.specs.Base.{closed, Table, fresh, streamTotal}
+use Rattle.paper.specs.Base.{closed, Table, fresh}
 use Rattle.paper.specs.RecordsOut.{allBytes}
 use Rattle.paper.specs.Refusals.{Outcome}
 use Rattle.paper.specs.Step.{step}
@@ -101,7 +101,7 @@ abbrev pub ppa : Ppa
 ppa = record { number = record { 0 = 1 }; mac = mac }
 
 abbrev pub noneOpened : Table
-noneOpened = record { remembers = false; counter = 1; ppas = ppa ∷ []; slots = replicate streamTotal closed }
+noneOpened = record { remembers = false; counter = 1; ppas = ppa ∷ []; slots = replicate 16 closed }
 
 -- the counter, how stream 0 stands, its open indications
 abbrev pub streamZero : ℕ → Stream → List ℕ → Table
