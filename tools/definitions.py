@@ -31,7 +31,7 @@ use Rattle.octets.specs.Runs.{over, sameBytes}
 use Rattle.paper.specs.Base.{Table, fresh}
 use Rattle.paper.specs.RecordsOut.{allBytes}
 use Rattle.paper.specs.Refusals.{Outcome}
-use Rattle.paper.specs.Step.{roomSize, step}
+use Rattle.paper.specs.Step.{step}
 use Rattle.replay_transcript.specs.Transcript.{title, totals}
 use Rattle.fates_book.specs.declared.Line.{Line}
 use Rattle.fates_book.specs.Lines.{linesOf as saidBy}
@@ -47,19 +47,19 @@ abbrev number : Outcome → ℕ
 number o = pick (ltb 0 (o .refusal)) (o .refusal * 65536) (length (allBytes (o .records)) + o .opened * 16777216)
 
 abbrev printed : ℕ → Outcome → List ℕ
-printed n o = callText n (number o) (over (allBytes (o .records)) (replicate roomSize 0))
+printed n o = callText n (number o) (over (allBytes (o .records)) (replicate 128 0))
 
 -- from a table on, with so many calls made and so many of them refused; the last line
 abbrev replays : Table → ℕ → ℕ → List Call → List ℕ → Bool
 replays t n m [] end = sameBytes (totals n m) end
 replays t n m (call r w ∷ l) end =
-    both (sameBytes (printed (n + 1) (step t r roomSize)) w)
-    (replays (step t r roomSize .table) (n + 1) (m + oneIf (ltb 0 (step t r roomSize .refusal))) l end)
+    both (sameBytes (printed (n + 1) (step t r 128)) w)
+    (replays (step t r 128 .table) (n + 1) (m + oneIf (ltb 0 (step t r 128 .refusal))) l end)
 
 -- what the records of calls say, from a table on
 abbrev said : Table → List (List ℕ) → List Line
 said t [] = []
-said t (r ∷ l) = saidBy r (step t r roomSize .opened) (allBytes (step t r roomSize .records)) ++ said (step t r roomSize .table) l
+said t (r ∷ l) = saidBy r (step t r 128 .opened) (allBytes (step t r 128 .records)) ++ said (step t r 128 .table) l
 
 abbrev account : List Line → List ℕ
 account ys = heading ++ allText ys blank ++ closing (enteredAll ys blank)
