@@ -7,8 +7,13 @@ gives the form in full.
 
 import sys
 
-FILLED = {"P", "C"}  # kinds that are filled with zero bytes
-FULL = 99            # kind 1, stream 1, length 1, block 96
+# Kinds that are filled with zero bytes up to their size, kind byte included.
+FILLED = {
+    "P": 99,  # kind 1, stream 1, length 1, block 96
+    "C": 99,  # as P
+    "M": 67,  # kind 1, stream 1, length 1, data 64
+    "f": 87,  # kind 1, PPA 4, address length 1, called 8, calling 8, data length 1, data 64
+}
 
 # Size of the other kinds, kind byte included.  A line of another size is
 # assembled as it stands, with a warning unless it says that it is cut.
@@ -47,9 +52,10 @@ def assemble_line(text, warn):
         rest = rest[:-1]
     record = kind.encode("ascii") + hex_bytes(rest)
     if kind in FILLED:
-        if len(record) > FULL:
-            raise Fault("record of %d bytes, over %d" % (len(record), FULL))
-        return record if cut else record.ljust(FULL, b"\0")
+        full = FILLED[kind]
+        if len(record) > full:
+            raise Fault("record of %d bytes, over %d" % (len(record), full))
+        return record if cut else record.ljust(full, b"\0")
     if not cut and len(record) != SIZE.get(kind, len(record)):
         warn("kind %s of %d bytes, not %d" % (kind, len(record), SIZE[kind]))
     return record

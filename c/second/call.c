@@ -1,8 +1,7 @@
 /* call.c - the public calls on a lent table, and the order of refusals. */
 #include "second.h"
 
-#include <string.h>
-
+#include "datagram.h"
 #include "event.h"
 #include "image.h"
 #include "opening.h"
@@ -28,22 +27,29 @@ static bool stream_is_open(const struct table *table, uint8_t s)
     return s < STREAMS && table->stream[s].open;
 }
 
-static enum refusal take_message(struct table *table, const uint8_t *body,
+/* P and C from a user are treated alike. */
+static enum refusal take_message(struct table *table, const uint8_t *record,
                                  struct outcome *outcome)
 {
+    const uint8_t *body = record + 1;
     uint8_t length = body[MESSAGE_LENGTH];
 
     if (length > BLOCK_SIZE)
         return REFUSED_LONG;
     if (length < 4)
         return REFUSED_SHORT;
+    if (second_is_datagram(record))
+        return second_take_datagram(table, record, outcome);
 
     second_answer_request(table, body[MESSAGE_STREAM], body + MESSAGE_BLOCK,
                           length, outcome);
     return SERVED;
 }
 
-/* The record is whole, and the stream that it may name is open. */
+/*
+ * The record is whole, and the stream that it may name is open. Records out
+ * are written when nothing can refuse the call any more, straight to the room.
+ */
 static enum refusal take_record(struct table *table, const uint8_t *record,
                                 struct outcome *outcome)
 {
@@ -68,9 +74,16 @@ static enum refusal take_record(struct table *table, const uint8_t *record,
         return second_peer_reset(table, body, outcome);
     case RESET_CONFIRMED:
         return second_reset_confirmed(table, body, outcome);
-    default: /* P and C from a user are treated alike. */
-        return take_message(table, body, outcome);
+    case FRAME_ARRIVES:
+        return second_frame_arrives(table, body, outcome);
+    default:
+        return take_message(table, record, outcome);
     }
+}
+
+static size_t room_needed(uint8_t kind)
+{
+    return kind == FRAME_ARRIVES ? SECOND_FRAME_ROOM_SIZE : SECOND_ROOM_SIZE;
 }
 
 /* The refusals in their order: 10, 1, 2, then those of the record's kind. */
@@ -78,11 +91,11 @@ static enum refusal take_call(struct table *table, const uint8_t *record,
                               size_t record_len, size_t room_len,
                               struct outcome *outcome)
 {
-    if (second_record_size(record, record_len) == 0)
+    size_t size = second_record_size(record, record_len);
+
+    if (size == 0 || second_is_malformed(record, size))
         return REFUSED_RECORD;
-    if (second_padding_is_nonzero(record))
-        return REFUSED_RECORD;
-    if (room_len < SECOND_ROOM_SIZE)
+    if (room_len < room_needed(record[0]))
         return REFUSED_ROOM;
     if (second_names_stream(record[0]) && !stream_is_open(table, record[1]))
         return REFUSED_STREAM;
@@ -104,7 +117,7 @@ uint32_t second_call(uint8_t *table, size_t table_len,
                      uint8_t *room, size_t room_len)
 {
     struct table own;
-    struct outcome outcome = { .size = 0 };
+    struct outcome outcome = { .room = room };
     enum refusal refusal;
 
     if (!second_read_image(table, table_len, &own) || !second_is_sound(&own))
@@ -115,6 +128,5 @@ uint32_t second_call(uint8_t *table, size_t table_len,
         return answer_refused(refusal);
 
     second_write_image(&own, table);
-    memcpy(room, outcome.records, outcome.size);
     return answer_served(&outcome);
 }

@@ -3,10 +3,6 @@
 
 #include <string.h>
 
-enum {
-    LONGEST_RECORD = 3 + BLOCK_SIZE
-};
-
 void second_begin_capture(struct capture *capture, FILE *file)
 {
     capture->file = file;
@@ -22,12 +18,13 @@ static size_t bytes_left(const struct capture *capture)
 }
 
 /*
- * Makes the next record stand whole in the buffer, unless the file ends
- * within it. False if reading fails.
+ * Makes all that the next call may read stand in the buffer, unless the file
+ * ends before: a control record of code 0x07 is not judged without the bytes
+ * behind it. False if reading fails.
  */
 static bool fill(struct capture *capture)
 {
-    if (bytes_left(capture) >= LONGEST_RECORD || feof(capture->file))
+    if (bytes_left(capture) >= PAIR_SIZE || feof(capture->file))
         return true;
 
     memmove(capture->bytes, capture->bytes + capture->start,

@@ -1,6 +1,6 @@
 /*
  * capture.h - reads a capture: records right behind one another, one call for
- * each, from a fresh table.
+ * each, from a fresh table. A datagram's two records are one call.
  */
 #ifndef CAPTURE_H
 #define CAPTURE_H
@@ -28,12 +28,12 @@ struct capture {
     uint8_t table[SECOND_TABLE_SIZE];
 };
 
-/* A record, and what the call for it gave. */
+/* A record, and what the call for it gave. The room is enough for a frame. */
 struct turn {
     const uint8_t *record; /* stands in the capture until the next turn */
     enum refusal refusal;
     struct token opened; /* of the stream that the call opened, or 0 */
-    uint8_t room[SECOND_ROOM_SIZE];
+    uint8_t room[SECOND_FRAME_ROOM_SIZE];
     size_t size; /* of the records out */
 };
 

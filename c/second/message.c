@@ -14,6 +14,7 @@ enum {
     BIND_ACK_SIZE = 24,
     CONNECT_IND_SIZE = 36,
     CONNECT_CON_SIZE = 24,
+    UNITDATA_IND_SIZE = 24,
     ORIGINATOR = 0x0701 /* of every disconnect and reset */
 };
 
@@ -228,5 +229,34 @@ void second_send_reset_con(struct outcome *outcome, unsigned s)
 {
     struct message message = begin(RESET_CON);
 
+    send_up(outcome, s, &message);
+}
+
+void second_send_unitdata_ind(struct outcome *outcome, unsigned s,
+                              const uint8_t *called, const uint8_t *calling,
+                              size_t address_length)
+{
+    struct message message = begin(UNITDATA_IND);
+
+    add_field(&message, (uint32_t)address_length);
+    add_field(&message, UNITDATA_IND_SIZE);
+    add_field(&message, (uint32_t)address_length);
+    add_field(&message, (uint32_t)(UNITDATA_IND_SIZE + address_length));
+    add_field(&message, 0); /* group flag */
+    add_part(&message, called, address_length);
+    add_part(&message, calling, address_length);
+    send_up(outcome, s, &message);
+}
+
+/* It carries no address. Its errors stand the other way round in ERROR_ACK. */
+void second_send_uderror_ind(struct outcome *outcome, unsigned s,
+                             enum dl_error error)
+{
+    struct message message = begin(UDERROR_IND);
+
+    add_field(&message, 0); /* address length */
+    add_field(&message, 0); /* address offset */
+    add_field(&message, 0); /* system error */
+    add_field(&message, error);
     send_up(outcome, s, &message);
 }

@@ -16,6 +16,9 @@ enum message_code {
     BIND_ACK = 0x04,
     ERROR_ACK = 0x05,
     OK_ACK = 0x06,
+    UNITDATA_REQ = 0x07,
+    UNITDATA_IND = 0x08,
+    UDERROR_IND = 0x09,
     ATTACH_REQ = 0x0b,
     DETACH_REQ = 0x0c,
     CONNECT_REQ = 0x0d,
@@ -70,5 +73,12 @@ void second_send_disconnect_ind(struct outcome *outcome, unsigned s,
 void second_send_reset_ind(struct outcome *outcome, unsigned s,
                            uint32_t reason);
 void second_send_reset_con(struct outcome *outcome, unsigned s);
+
+/* The two addresses have one length. */
+void second_send_unitdata_ind(struct outcome *outcome, unsigned s,
+                              const uint8_t *called, const uint8_t *calling,
+                              size_t address_length);
+void second_send_uderror_ind(struct outcome *outcome, unsigned s,
+                             enum dl_error error);
 
 #endif

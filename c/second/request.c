@@ -340,7 +340,7 @@ static const struct request *find_request(uint32_t code)
 
 static bool is_known_but_not_supported(uint32_t code)
 {
-    return code == 0x07 || code == 0x0a || code == 0x15 || code == 0x1b
+    return code == 0x0a || code == 0x15 || code == 0x1b
         || (code >= 0x1d && code <= 0x20);
 }
 

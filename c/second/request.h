@@ -1,4 +1,7 @@
-/* request.h - the requests, their order of errors and their state rows. */
+/*
+ * request.h - the requests, their order of errors and their state rows; those
+ * of datagrams are in datagram.h.
+ */
 #ifndef REQUEST_H
 #define REQUEST_H
 

@@ -35,15 +35,18 @@ size_t second_sap_length(uint16_t sap)
     return sap < 256 ? 1 : 2;
 }
 
+size_t second_address_length(uint16_t sap)
+{
+    return MAC_SIZE + second_sap_length(sap);
+}
+
 size_t second_address(const uint8_t mac[MAC_SIZE], uint16_t sap,
                       uint8_t address[LONGEST_ADDRESS_SIZE])
 {
-    size_t sap_length = second_sap_length(sap);
-
     memcpy(address, mac, MAC_SIZE);
-    if (sap_length == 1)
+    if (second_sap_length(sap) == 1)
         address[MAC_SIZE] = (uint8_t)sap;
     else
         put16(address + MAC_SIZE, sap);
-    return MAC_SIZE + sap_length;
+    return second_address_length(sap);
 }

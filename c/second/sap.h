@@ -25,6 +25,9 @@ bool second_is_type(uint32_t value);
  */
 size_t second_sap_length(uint16_t sap);
 
+/* The length of a bound stream's address, 7 or 8. */
+size_t second_address_length(uint16_t sap);
+
 /* Writes a bound stream's address and returns its length. */
 size_t second_address(const uint8_t mac[MAC_SIZE], uint16_t sap,
                       uint8_t address[LONGEST_ADDRESS_SIZE]);

@@ -23,6 +23,9 @@
 /* A call needs this much room, however little it writes. */
 #define SECOND_ROOM_SIZE 128
 
+/* But the call for a frame, an f, needs this much. */
+#define SECOND_FRAME_ROOM_SIZE 4096
+
 /*
  * Makes the image of a fresh table. Returns 0, or 16 with nothing written
  * where the length is not SECOND_TABLE_SIZE.
@@ -30,7 +33,9 @@
 uint32_t second_fresh(uint8_t *table, size_t table_len);
 
 /*
- * One call: reads the one record at the start of the lent bytes. The answer:
+ * One call: reads the one record at the start of the lent bytes. A datagram is
+ * read as one record: a P or C of code 0x07 with L 4 to 96 and, right behind
+ * it, an M with the same stream. The answer:
  *   bits 0-15   how many bytes were written into the room
  *   bits 16-23  the refusal number, 0 if the call is served
  *   bits 24-31  the token of the stream that a served O opened, else 0
@@ -43,8 +48,10 @@ uint32_t second_call(uint8_t *table, size_t table_len,
 
 /*
  * The size of the record at the start of the lent bytes, its kind included;
- * 0 where reading ends there: no bytes, unknown kind or cut body. Nonzero
- * padding and an L over 96 do not end the reading.
+ * 0 where reading ends there: no bytes, unknown kind or cut body. Nothing else
+ * that is wrong with a record ends the reading. A datagram has the size of its
+ * two records together: 166. Where the M of a P or C of code 0x07 is missing,
+ * cut or of another stream, the size is that of the P or C alone: 99.
  */
 uint32_t second_record_size(const uint8_t *record, size_t record_len);
 

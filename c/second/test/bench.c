@@ -70,24 +70,43 @@ size_t hex(const char *text, uint8_t *bytes)
     return parse_hex(&text, bytes);
 }
 
+/* The size of a record that is padded, else 0. */
+static size_t padded_size(char kind)
+{
+    switch (kind) {
+    case 'P':
+    case 'C':
+        return 99;
+    case 'M':
+        return 67;
+    case 'u':
+        return 11;
+    case 'f':
+        return 87;
+    default:
+        return 0;
+    }
+}
+
 static size_t parse_record(const char **text, uint8_t *bytes)
 {
     char kind = *(*text)++;
+    size_t padded = padded_size(kind);
     size_t size = 1;
 
+    memset(bytes, 0, padded);
     bytes[0] = (uint8_t)kind;
-    if (strchr("GOI", kind) == NULL) {
+    if (strchr("GOIf", kind) == NULL) {
         char *after;
 
         bytes[size++] = (uint8_t)strtoul(*text, &after, 10);
         *text = after;
     }
-    if (kind == 'P' || kind == 'C') {
-        memset(bytes + 2, 0, 97);
+    if (strchr("PCMu", kind) != NULL)
         bytes[2] = (uint8_t)parse_hex(text, bytes + 3);
-        return 99;
-    }
-    return size + parse_hex(text, bytes + size);
+    else
+        size += parse_hex(text, bytes + size);
+    return padded > 0 ? padded : size;
 }
 
 size_t parse_records(const char *text, uint8_t *bytes)
@@ -195,6 +214,11 @@ static uint32_t one_call(struct bench *b, const uint8_t *record, size_t size,
     return answer;
 }
 
+static size_t room_for(const uint8_t *record)
+{
+    return record[0] == 'f' ? FRAME_ROOM : NEEDED_ROOM;
+}
+
 void refuse_bytes(struct bench *b, const uint8_t *record, size_t size,
                   size_t room_len, uint32_t refusal, const char *what)
 {
@@ -213,7 +237,7 @@ void refuse(struct bench *b, const char *in, uint32_t refusal)
     uint8_t record[LONGEST_TEXT];
     size_t size = parse_records(in, record);
 
-    refuse_bytes(b, record, size, NEEDED_ROOM, refusal, in);
+    refuse_bytes(b, record, size, room_for(record), refusal, in);
 }
 
 void serve_bytes(struct bench *b, const uint8_t *record, size_t size,
@@ -222,7 +246,7 @@ void serve_bytes(struct bench *b, const uint8_t *record, size_t size,
     uint8_t wanted[LONGEST_TEXT];
     size_t wanted_size = parse_records(out, wanted);
     uint32_t wanted_answer = token << 24 | (uint32_t)wanted_size;
-    uint32_t answer = one_call(b, record, size, NEEDED_ROOM, what);
+    uint32_t answer = one_call(b, record, size, room_for(record), what);
 
     if (answer != wanted_answer)
         printf("answer %08x wanted, %08x given: %s\n", (unsigned)wanted_answer,
@@ -267,6 +291,25 @@ void error(struct bench *b, const char *in, unsigned code)
     size_t size = parse_records(in, record);
 
     error_bytes(b, record, size, code, in);
+}
+
+void uderror_bytes(struct bench *b, const uint8_t *record, size_t size,
+                   unsigned code, const char *what)
+{
+    char out[LONGEST_TEXT];
+
+    snprintf(out, sizeof out, "P %u 00000009 00000000 00000000 00000000 %08x",
+             record[1], code);
+    serve_bytes(b, record, size, 0, out, what);
+    same_table(b, what);
+}
+
+void uderror(struct bench *b, const char *in, unsigned code)
+{
+    uint8_t record[LONGEST_TEXT];
+    size_t size = parse_records(in, record);
+
+    uderror_bytes(b, record, size, code, in);
 }
 
 void message(uint8_t *record, uint8_t s, uint8_t length, const char *block)

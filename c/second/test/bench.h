@@ -3,9 +3,10 @@
  *
  * Every expected value is written out from the paper. Records are written as
  * the replay program prints them: the kind, the stream in decimal if the kind
- * has one, then the other fields in hex. For P and C the length L and the
- * padding follow from the hex. A semicolon stands between two records. Slots
- * of the image are written in hex; their bytes that aren't written are zero.
+ * has one, then the other fields in hex. For P, C, M and u the length and the
+ * padding follow from the hex. An f's bytes that aren't written are zero. A
+ * semicolon stands between two records. Slots of the image are written in hex;
+ * their bytes that aren't written are zero.
  */
 #ifndef BENCH_H
 #define BENCH_H
@@ -18,11 +19,12 @@
 
 enum {
     GUARD = 13, /* odd, so that table and room aren't both aligned */
-    ROOM_AREA = 200,
+    ROOM_AREA = 4200,
     TABLE_GUARD_BYTE = 0xa5,
     ROOM_BYTE = 0x5a,
     NEEDED_ROOM = 128,
-    LONGEST_TEXT = 1024
+    FRAME_ROOM = 4096, /* that an f needs */
+    LONGEST_TEXT = 8192
 };
 
 /* Where the image holds what. */
@@ -84,6 +86,8 @@ void same_table(struct bench *b, const char *what);
 
 /* ---- calls ---- */
 
+/* Where no room_len is given, just the room is lent that the record needs. */
+
 /* A refusal changes nothing. */
 void refuse_bytes(struct bench *b, const uint8_t *record, size_t size,
                   size_t room_len, uint32_t refusal, const char *what);
@@ -102,6 +106,11 @@ void error_bytes(struct bench *b, const uint8_t *record, size_t size,
                  unsigned code, const char *what);
 void error(struct bench *b, const char *in, unsigned code);
 
+/* A datagram gets UDERROR_IND, on the stream that asked; nothing changes. */
+void uderror_bytes(struct bench *b, const uint8_t *record, size_t size,
+                   unsigned code, const char *what);
+void uderror(struct bench *b, const char *in, unsigned code);
+
 /* A message whose L is not that of its text. */
 void message(uint8_t *record, uint8_t s, uint8_t length, const char *block);
 
@@ -110,6 +119,7 @@ void message(uint8_t *record, uint8_t s, uint8_t length, const char *block);
 #define UNBOUND_SLOT "03 00 0000 00000001"
 #define IDLE_SLOT "06 01 0080 00000001 02"
 #define TYPE_SLOT "06 02 0800 00000001"
+#define BOARD_SLOT "06 02 0080 00000001"
 #define CALLING_SLOT "08 01 0080 00000001 02"
 #define CALLED_SLOT "09 01 0080 00000001 02 01 00000005"
 #define CONNECTED_SLOT "0b 01 0080 00000001 02"
@@ -151,7 +161,7 @@ void message(uint8_t *record, uint8_t s, uint8_t length, const char *block);
 
 #define CONNECT_FIELDS "00000007 00000018 00000000 00000000 00000000"
 
-/* The nine ways in which an open stream can stand, on stream 2. */
+/* Ways in which an open stream can stand, one at least for each state. */
 enum { STANDINGS = 9 };
 extern const char *const standings[STANDINGS];
 

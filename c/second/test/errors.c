@@ -10,9 +10,9 @@
 static void test_errors_of_step_1(struct bench *b)
 {
     static const char *const not_supported[] = {
-        "P 2 00000007", "P 2 0000000a", "P 2 00000015", "P 2 0000001b",
-        "P 2 0000001d", "P 2 0000001e", "P 2 0000001f", "P 2 00000020",
-        "C 2 00000007 00000001 00000002",
+        "P 2 0000000a", "P 2 00000015", "P 2 0000001b", "P 2 0000001d",
+        "P 2 0000001e", "P 2 0000001f", "P 2 00000020",
+        "C 2 0000000a 00000001 00000002",
     };
     static const char *const bad[] = {
         "P 2 00000003", "P 2 00000004", "P 2 00000005", "P 2 00000006",
@@ -20,7 +20,7 @@ static void test_errors_of_step_1(struct bench *b)
         "P 2 00000012", "P 2 00000014", "P 2 00000016", "P 2 00000018",
         "P 2 0000001a", "P 2 0000001c", "P 2 00000021", "P 2 000000ff",
         "P 2 00000100", "P 2 01000000", "P 2 0000010b 00000001",
-        "P 2 ffffffff",
+        "P 2 00000107", "P 2 07000000", "P 2 ffffffff",
     };
 
     b->topic = "errors of step 1, codes";

@@ -40,7 +40,7 @@ static void test_record_sizes(struct bench *b)
     } kinds[] = {
         { 'G', 11 }, { 'O', 1 }, { 'X', 2 }, { 'P', 99 }, { 'C', 99 },
         { 'I', 19 }, { 'A', 9 }, { 'D', 6 }, { 'W', 10 }, { 'R', 6 },
-        { 'S', 2 },
+        { 'S', 2 }, { 'M', 67 }, { 'f', 87 },
     };
     uint8_t record[100];
     size_t known = 0;
@@ -61,7 +61,7 @@ static void test_record_sizes(struct bench *b)
         if (second_record_size(record, 100) != 0)
             known++;
     }
-    check(b, known == 11, "no other kind is known");
+    check(b, known == 13, "no other kind is known");
 }
 
 static void test_measured_info(struct bench *b)

@@ -95,6 +95,10 @@ static void test_no_fate(struct bench *b)
     noted(b, &ledger, "X 0", "d 0 00000000 00000001");
     noted(b, &ledger, "D 0 00000001", DISCONNECT_IND_TO("0", "0"));
     noted(b, &ledger, ASKING("0"), "r 0; s 0; F 0; c 0 00000000000001");
+    /* The datagram and the data hold what would be an a or a CONNECT_IND. */
+    noted(b, &ledger, ASKING("0"), "u 0 6100000000010000; M 0 610000000001;"
+                                   "M 0 0000000e00000007; F 0");
+    noted(b, &ledger, CALL_IN, "P 0 00000008 0000000e; M 0 640000000001");
     check(b, writes(&ledger, ASKING("0"), "a 0 00000001", REFUSED_EVENT),
           "refused");
     tells(b, &ledger, "call 0 1 1 1 open\n"

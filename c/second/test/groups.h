@@ -15,5 +15,9 @@ void run_errors(struct bench *b);
 void run_responses(struct bench *b);
 void run_rows(struct bench *b);
 void run_numbers(struct bench *b);
+void run_pairs(struct bench *b);
+void run_datagrams(struct bench *b);
+void run_frames(struct bench *b);
+void run_boards(struct bench *b);
 
 #endif

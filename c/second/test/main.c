@@ -19,6 +19,10 @@ int main(void)
     run_responses(&bench);
     run_rows(&bench);
     run_numbers(&bench);
+    run_pairs(&bench);
+    run_datagrams(&bench);
+    run_frames(&bench);
+    run_boards(&bench);
     printf("%u passed, %u failed\n", bench.passed, bench.failed);
     return bench.failed == 0 ? 0 : 1;
 }

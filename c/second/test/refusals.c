@@ -188,7 +188,7 @@ static void test_refusal_10(struct bench *b)
     stand(b, 0, "00");
     refuse_bytes(b, NULL, 0, NEEDED_ROOM, 10, "no bytes");
     for (unsigned kind = 0; kind < 256; kind++)
-        if (kind == 0 || strchr("GOXPCIADWRS", (int)kind) == NULL) {
+        if (kind == 0 || strchr("GOXPCIADWRSMf", (int)kind) == NULL) {
             record[0] = (uint8_t)kind;
             refuse_bytes(b, record, 100, NEEDED_ROOM, 10, "unknown kind");
         }
