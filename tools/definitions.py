@@ -1,11 +1,11 @@
 #!/usr/bin/env python3
 """Replays every capture of captures/ by the definitions, and compares with its expected texts.
 
-For each capture it writes a claim that what the calls come to by `step` (crates/paper), from a fresh table and with 128
-bytes of room, prints as NAME.text (crates/replay_transcript), byte by byte, and where there is a NAME.fates another, that the same
-calls print as that (crates/fates_book, fates_register, fates_report); and has the checker compute them. The claims stand in a crate of their
-own below target/definitions/, and what is proved already in target/ serves them. The last line is 'N passed, M failed'; exit
-status 1 if a claim fails.
+For each capture it writes a claim on its calls, from a fresh table and with 4,096 bytes of room: each reads as far as it must
+(`recordSize`, crates/paper), and what it comes to by `step` prints as NAME.text (crates/replay_transcript), byte by byte. Where
+there is a NAME.fates another says that the same calls print as that (crates/fates_book, fates_register, fates_report). The
+checker computes them. The claims stand in a crate of their own below target/definitions/, and what is proved already in target/
+serves them. The last line is 'N passed, M failed'; exit status 1 if a claim fails.
 """
 import importlib.util
 import pathlib
@@ -24,7 +24,7 @@ use mathlib.Core.Path.{_≡_, refl}
 use mathlib.Core.Bool.{Bool, true}
 use mathlib.Core.List.{List, [], _∷_, _++_}
 use lib.ListN.{length, replicate}
-use lib.Dec.{ltb}
+use lib.Dec.{eqb, ltb}
 use Rattle.ledger.specs.Choice.{_⇒_∣_, pick, both}
 use Rattle.ledger.specs.Tally.{oneIf}
 use Rattle.octets.specs.Runs.{over, sameBytes}
@@ -39,27 +39,27 @@ use Rattle.fates_register.specs.Register.{blank}
 use Rattle.fates_report.specs.Report.{heading, closing}
 USES
 
--- the record lent, and what must be printed of its call
+-- how far its call reads, the bytes lent, and what must be printed
 data Call : Type 0 where
-  call : List ℕ → List ℕ → Call
+  call : ℕ → List ℕ → List ℕ → Call
 
 abbrev number : Outcome → ℕ
 number o = pick (ltb 0 (o .refusal)) (o .refusal * 65536) (length (allBytes (o .records)) + o .opened * 16777216)
 
 abbrev printed : ℕ → Outcome → List ℕ
-printed n o = callText n (number o) (over (allBytes (o .records)) (replicate 128 0))
+printed n o = callText n (number o) (over (allBytes (o .records)) (replicate 4096 0))
 
 -- from a table on, with so many calls made and so many of them refused; the last line
 abbrev replays : Table → ℕ → ℕ → List Call → List ℕ → Bool
 replays t n m [] end = sameBytes (totals n m) end
-replays t n m (call r w ∷ l) end =
-    both (sameBytes (printed (n + 1) (step t r 128)) w)
-    (replays (step t r 128 .table) (n + 1) (m + oneIf (ltb 0 (step t r 128 .refusal))) l end)
+replays t n m (call size r w ∷ l) end =
+    both (both (eqb (recordSize r) size) (sameBytes (printed (n + 1) (step t r 4096)) w))
+    (replays (step t r 4096 .table) (n + 1) (m + oneIf (ltb 0 (step t r 4096 .refusal))) l end)
 
 -- what the records of calls say, from a table on
 abbrev said : Table → List (List ℕ) → List Line
 said t [] = []
-said t (r ∷ l) = saidBy r (step t r 128 .opened) (allBytes (step t r 128 .records)) ++ said (step t r 128 .table) l
+said t (r ∷ l) = saidBy r (step t r 4096 .opened) (allBytes (step t r 4096 .records)) ++ said (step t r 4096 .table) l
 
 abbrev account : List Line → List ℕ
 account ys = heading ++ allText ys blank ++ closing (enteredAll ys blank)
@@ -75,7 +75,7 @@ def assembler():
 
 
 ASSEMBLE = assembler()
-SIZES = {**ASSEMBLE.SIZE, **{kind: ASSEMBLE.FULL for kind in ASSEMBLE.FILLED}}
+SIZES = {**ASSEMBLE.SIZE, **ASSEMBLE.FILLED}
 
 
 def assembled(name):
@@ -84,14 +84,24 @@ def assembled(name):
     return b"".join(ASSEMBLE.assemble_line(line, lambda _: None) for line in lines)
 
 
+def is_pair(capture):
+    """A message of code 7 with L 4 to 96, and right behind it a whole M of its stream."""
+    behind = capture[SIZES["P"]:]
+    return (capture[:1] in (b"P", b"C") and 4 <= capture[2] <= 96 and capture[3:7] == bytes([0, 0, 0, 7])
+            and len(behind) >= SIZES["M"] and behind[:2] == b"M" + capture[1:2])
+
+
 def lent(capture):
-    """The records in order; the last is what is left where reading ends."""
+    """How far each call reads, in order, and the bytes that it is lent: as many as the longest call reads, or all that are
+    left. The last reads 0 where reading ends."""
     while capture:
+        window = capture[:SIZES["P"] + SIZES["M"]]
         size = SIZES.get(chr(capture[0]), 0)
         if not 0 < size <= len(capture):
-            yield capture
+            yield 0, window
             return
-        yield capture[:size]
+        size += SIZES["M"] if is_pair(capture) else 0
+        yield size, window
         capture = capture[size:]
 
 
@@ -117,13 +127,13 @@ def text_claim(name):
     records, (first, texts, last) = list(lent(assembled(name))), expected(name)
     if len(records) != len(texts):
         return ""
-    calls = " ∷ ".join([f"call {antt_bytes(r)} {antt_bytes(w)}" for r, w in zip(records, texts)] + ["[]"])
+    calls = " ∷ ".join([f"call {size} {antt_bytes(r)} {antt_bytes(w)}" for (size, r), w in zip(records, texts)] + ["[]"])
     return f"both (sameBytes title {antt_bytes(first)}) (replays fresh 0 0 ({calls}) {antt_bytes(last)})"
 
 
 def fates_claim(name):
     """That the capture prints its fates."""
-    records = " ∷ ".join([antt_bytes(record) for record in lent(assembled(name))] + ["[]"])
+    records = " ∷ ".join([antt_bytes(record) for _, record in lent(assembled(name))] + ["[]"])
     return f"sameBytes (account (said fresh ({records}))) {antt_bytes((TOP / 'captures' / (name + '.fates')).read_bytes())}"
 
 

@@ -19,7 +19,6 @@ use paper::ConnectResponse;
 use paper::DisconnectRequest;
 use paper::Found;
 use paper::Request;
-use paper::Rule;
 use paper::Service;
 use paper::Stream;
 use paper::Token;
@@ -83,7 +82,7 @@ fn judged_disconnect(img: &[u8], i: u8, s: Stream, d: DisconnectRequest) -> Judg
     alone(i, paper_rules::judge_disconnect(s, d, waits))
 }
 
-// Steps 3 to 7, by the request.
+// Steps 3 to 7, and the tests of a datagram, by the request.
 fn judged_request(img: &[u8], i: u8, s: Stream, q: Request) -> Judgement
     requires { ⌜ Loaded s i (now img) ⌝ }
     ensures { λ r. ⌜ RightlyJudged (tableOf (now (img .entry))) i q r ⌝ }
@@ -107,21 +106,25 @@ fn judged_request(img: &[u8], i: u8, s: Stream, q: Request) -> Judgement
         Request::Disconnect(d) => judged_disconnect(img, i, s, d),
         Request::Reset => alone(i, Verdict::Serves(Service::Reset)),
         Request::ResetRes => alone(i, Verdict::Serves(Service::ResetRes)),
+        Request::Unitdata(u) => alone(i, paper_rules::judge_datagram(s, u)),
     }
 }
 
 // ---- a message of stream i
 
-// Step 2 of the order of errors, then the others; a request that they let pass is served by its state row. (Which message it
-// is read from is not asked.)
+// Step 2 of the order of errors, then the others; a request that they let pass is served by its state row. (Which record it
+// came with is not asked.)
 fn answer_request(img: &[u8], i: u8, code: u32, q: Request) -> Decided
     requires { ⌜ LentAt i (now img) ⌝ }
-    ensures { λ r. ⌜ ((m : List ℕ) → Rightly (tableOf (now (img .entry))) m r (comes stateRows (tableOf (now (img .entry))) i m (sends code (asked.For q)))) ⌝ }
+    ensures { λ d. ⌜ ((r : List ℕ) → Rightly (tableOf (now (img .entry))) r d (comes stateRows (tableOf (now (img .entry))) i r (sends code (asked.For q)))) ⌝ }
 {
     let s = table_image::load_stream(img, i as usize);
     let found = paper_rows::request_row(s, q);
     match found {
-        Found::Missing => Decided::Does(i, i, paper_effects::error_effect(code, Rule::NoRow)),
+        Found::Missing => {
+            let no_row = paper_rules::without_row(q);
+            Decided::Does(i, i, paper_effects::error_effect(code, no_row))
+        }
         Found::At(x) => {
             let judged = judged_request(img, i, s, q);
             let verdict = judged.verdict;
@@ -132,11 +135,11 @@ fn answer_request(img: &[u8], i: u8, code: u32, q: Request) -> Decided
     }
 }
 
-// Step 1 of the order of errors, then the others.
+// Step 1 of the order of errors, then the others, of message m, whichever record it came with.
 pub fn answer_message(img: &[u8], i: u8, m: &[u8]) -> Decided
     requires { ⌜ Sent i (now img) (now m) ⌝ }
-    ensures { λ r. ⌜ Rightly (tableOf (now (img .entry))) (now (m .entry)) r
-        (comes stateRows (tableOf (now (img .entry))) i (now (m .entry)) (sends (codeIn (now (m .entry))) (askedBy (now (m .entry))))) ⌝ }
+    ensures { λ d. ⌜ ((r : List ℕ) → Rightly (tableOf (now (img .entry))) r d
+        (comes stateRows (tableOf (now (img .entry))) i r (sends (codeIn (now (m .entry))) (askedBy (now (m .entry)))))) ⌝ }
 {
     let code = wire_messages::code_in(m);
     let asked = wire_messages::asked_by(m);

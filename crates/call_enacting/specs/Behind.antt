@@ -11,15 +11,16 @@ use Rattle.paper.specs.declared.Reply.the-variants as reply
 abbrev pub ownBehind : List ℕ → Reply → List ℕ
 ownBehind mac r = behindReply mac [] r
 
--- the addresses of the event's record m, where the message ends in them, and the stream's own where not
+-- the addresses of the event's record r, where the message ends in them, and the stream's own where not
 unfoldable pub behindBy : List ℕ → List ℕ → Reply → List ℕ
-behindBy own m (reply.InfoAck s) = own
-behindBy own m (reply.BindAck sap granted) = own
-behindBy own m (reply.ErrorAck code error) = own
-behindBy own m (reply.OkAck code) = own
-behindBy own m (reply.ConnectInd n) = part m 5 (addressSize + addressSize)
-behindBy own m reply.ConnectCon = part m 2 addressSize
-behindBy own m (reply.TokenAck k) = own
-behindBy own m (reply.DisconnectInd reason n) = own
-behindBy own m (reply.ResetInd reason) = own
-behindBy own m reply.ResetCon = own
+behindBy own r (reply.InfoAck s) = own
+behindBy own r (reply.BindAck sap granted) = own
+behindBy own r (reply.ErrorAck code error) = own
+behindBy own r (reply.OkAck code) = own
+behindBy own r (reply.ConnectInd n) = part r 5 (addressSize + addressSize)
+behindBy own r reply.ConnectCon = part r 2 addressSize
+behindBy own r (reply.TokenAck k) = own
+behindBy own r (reply.DisconnectInd reason n) = own
+behindBy own r (reply.ResetInd reason) = own
+behindBy own r reply.ResetCon = own
+behindBy own r (reply.UderrorInd error) = own

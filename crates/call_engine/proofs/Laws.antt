@@ -1,22 +1,21 @@
 -- What a sound table gives the call's parts, and what the call comes to on a sound image.
 use Prim.Native.Nat.{ℕ, _≤_}
-use native.Mathlib.Omega.{arith}
 use mathlib.Core.Path.{_≡_, refl, sym, ap, subst, _∙_}
-use mathlib.Core.Bool.{Bool, true, false, not, false≢true}
+use mathlib.Core.Bool.{true, not, false≢true}
 use mathlib.Core.List.{List, [], _∷_}
 use lib.ListN.{length}
 use lib.Dec.{ltb}
 use types.Run.{OneOf, miss}
 use denote.Enum.Declared.{tagOf}
-use borrow.Author.Tests.{ltb-false}
 use Rattle.ledger.specs.Choice.{_⇒_∣_}
 use Rattle.ledger.proofs.Tallies.{both-of, skip}
-use Rattle.paper.specs.Base.{Table, stream}
-use Rattle.paper.specs.RecordsIn.{inputOf, messageIn, messageSize, headSize}
+use Rattle.paper.specs.Base.{stream}
+use Rattle.paper.specs.RecordsIn.{inputOf}
 use Rattle.paper.specs.Refusals.{littleRoom, notARecord, refused}
 use Rattle.paper.specs.Sound.{sound}
 use Rattle.paper.specs.StateRows.{stateRows}
-use Rattle.paper.specs.Step.{ofOpen, message, serveBy, isReadable, stepBy, roomSize}
+use Rattle.paper.specs.Step.{serveBy, isReadable, stepBy}
+use Rattle.paper.specs.Room.{roomSize, roomFor}
 use Rattle.paper.specs.declared.Input.{Input}
 use Rattle.paper.specs.declared.Input.the-variants as input
 use Rattle.paper.proofs.Input as the-input
@@ -25,10 +24,8 @@ use Rattle.paper.proofs.SoundTests.{few-granted}
 use Rattle.table_image.specs.Layout.{tableOf, tidy, soundImage}
 use Rattle.call_outcomes.specs.Leaving.{leaving, callOf}
 use Rattle.call_events.specs.Bringing.{isOfLine}
-use Rattle.call_engine.specs.Reading.{isOpening, ReadOf}
-use Rattle.octets.proofs.Runs.{part-length}
+use Rattle.call_engine.specs.Reading.{isToStream}
 use Rattle.paper.specs.Saps.{mostOpen}
-use Rattle.octets.specs.Blocks.{blockSize}
 
 -- an image that is lent soundly is tidy, and its table sound
 pub parts : (img : List ℕ) → soundImage img ≡ true → (tidy img ≡ true) × (sound (tableOf img) ≡ true)
@@ -43,69 +40,80 @@ image-grants-few img h = few-granted (tableOf img) (parts img h .1)
 
 -- any but a message
 abbrev noMessage : List ℕ
-noMessage = 0 ∷ 1 ∷ 2 ∷ 3 ∷ 4 ∷ 6 ∷ 7 ∷ 8 ∷ 9 ∷ 10 ∷ 11 ∷ []
+noMessage = 0 ∷ 1 ∷ 2 ∷ 3 ∷ 4 ∷ 6 ∷ 7 ∷ 8 ∷ 9 ∷ 10 ∷ 11 ∷ 12 ∷ []
 
--- any but an opening
-abbrev noOpening : List ℕ
-noOpening = 0 ∷ 1 ∷ 5 ∷ 6 ∷ 7 ∷ 8 ∷ 9 ∷ 10 ∷ 11 ∷ []
+-- any but an opening or a frame
+abbrev ofOne : List ℕ
+ofOne = 0 ∷ 1 ∷ 5 ∷ 6 ∷ 7 ∷ 8 ∷ 9 ∷ 10 ∷ 11 ∷ []
 
-pub to-stream : (q : Input) → OneOf noOpening (tagOf the-input.the-type q) → isOpening q ≡ false
+pub to-stream : (q : Input) → OneOf ofOne (tagOf the-input.the-type q) → isToStream q ≡ true
 to-stream input.Unreadable k = refl
-to-stream input.Padded k = refl
-to-stream (input.AddPpa p) k = absurd (miss noOpening 2 tt k)
-to-stream input.Open k = absurd (miss noOpening 3 tt k)
-to-stream (input.Close i) k = absurd (miss noOpening 4 tt k)
-to-stream (input.Message i l) k = refl
+to-stream input.Malformed k = refl
+to-stream (input.AddPpa p) k = absurd (miss ofOne 2 tt k)
+to-stream input.Open k = absurd (miss ofOne 3 tt k)
+to-stream (input.Close i) k = absurd (miss ofOne 4 tt k)
+to-stream (input.Message i l n) k = refl
 to-stream (input.CallArrives p sap) k = refl
 to-stream (input.PeerAccepted i) k = refl
 to-stream (input.PeerGone i reason) k = refl
 to-stream (input.CallWithdrawn i n reason) k = refl
 to-stream (input.PeerReset i reason) k = refl
 to-stream (input.ResetConfirmed i) k = refl
+to-stream (input.Frame f) k = absurd (miss ofOne 12 tt k)
 
-pub from-line : (q : Input) → isOpening q ≡ false → OneOf noMessage (tagOf the-input.the-type q) → isOfLine q ≡ true
+-- for which 128 bytes are room enough
+pub one-room : (q : Input) → isToStream q ≡ true → roomFor q ≡ roomSize
+one-room input.Unreadable k = refl
+one-room input.Malformed k = refl
+one-room (input.AddPpa p) k = refl
+one-room input.Open k = refl
+one-room (input.Close i) k = refl
+one-room (input.Message i l n) k = refl
+one-room (input.CallArrives p sap) k = refl
+one-room (input.PeerAccepted i) k = refl
+one-room (input.PeerGone i reason) k = refl
+one-room (input.CallWithdrawn i n reason) k = refl
+one-room (input.PeerReset i reason) k = refl
+one-room (input.ResetConfirmed i) k = refl
+one-room (input.Frame f) k = absurd (false≢true k)
+
+pub from-line : (q : Input) → isToStream q ≡ true → OneOf noMessage (tagOf the-input.the-type q) → isOfLine q ≡ true
 from-line input.Unreadable h k = refl
-from-line input.Padded h k = refl
-from-line (input.AddPpa p) h k = absurd (false≢true (sym h))
-from-line input.Open h k = absurd (false≢true (sym h))
-from-line (input.Close i) h k = absurd (false≢true (sym h))
-from-line (input.Message i l) h k = absurd (miss noMessage 5 tt k)
+from-line input.Malformed h k = refl
+from-line (input.AddPpa p) h k = absurd (false≢true h)
+from-line input.Open h k = absurd (false≢true h)
+from-line (input.Close i) h k = absurd (false≢true h)
+from-line (input.Message i l n) h k = absurd (miss noMessage 5 tt k)
 from-line (input.CallArrives p sap) h k = refl
 from-line (input.PeerAccepted i) h k = refl
 from-line (input.PeerGone i reason) h k = refl
 from-line (input.CallWithdrawn i n reason) h k = refl
 from-line (input.PeerReset i reason) h k = refl
 from-line (input.ResetConfirmed i) h k = refl
+from-line (input.Frame f) h k = absurd (false≢true h)
 
--- ---- the bytes that an effect reads
+-- any but a frame
+abbrev noFrame : List ℕ
+noFrame = 0 ∷ 1 ∷ 2 ∷ 3 ∷ 4 ∷ 5 ∷ 6 ∷ 7 ∷ 8 ∷ 9 ∷ 10 ∷ 11 ∷ []
 
-pub read-message : (r m : List ℕ) (q : Input) (i l : ℕ) → q ≡ input.Message i l → (l ≤ blockSize → m ≡ messageIn r l) → ReadOf r q m
-read-message r m q i l e h = record {
-  message = λ j k z s. let same : k ≡ l = cc in rw same (h (omega (arith, same, s)));
-  event = λ k. absurd (false≢true (ap isOfLine (sym e) ∙ k));
-}
+pub plain-room : (q : Input) → OneOf noFrame (tagOf the-input.the-type q) → roomSize ≡ roomFor q
+plain-room input.Unreadable k = refl
+plain-room input.Malformed k = refl
+plain-room (input.AddPpa p) k = refl
+plain-room input.Open k = refl
+plain-room (input.Close i) k = refl
+plain-room (input.Message i l n) k = refl
+plain-room (input.CallArrives p sap) k = refl
+plain-room (input.PeerAccepted i) k = refl
+plain-room (input.PeerGone i reason) k = refl
+plain-room (input.CallWithdrawn i n reason) k = refl
+plain-room (input.PeerReset i reason) k = refl
+plain-room (input.ResetConfirmed i) k = refl
+plain-room (input.Frame f) k = absurd (miss noFrame 12 tt k)
 
-pub read-other : (r : List ℕ) (q : Input) → OneOf noMessage (tagOf the-input.the-type q) → ReadOf r q r
-read-other r q k = record {
-  message = λ i l e s. absurd (miss noMessage 5 tt (subst (λ (q : Input). OneOf noMessage (tagOf the-input.the-type q)) e k));
-  event = λ h. refl;
-}
-
--- a message has its L bytes
-pub read-size : (r m : List ℕ) (q : Input) (i l : ℕ) → q ≡ input.Message i l → inputOf r ≡ q → ReadOf r q m → l ≤ blockSize → length m ≡ l
-read-size r m q i l e f h s =
-    let long : messageSize ≤ length r = subst (λ (q : Input). leastSize q ≤ length r) (f ∙ e) (read-long r) in
-    ap length (h .message i l e s) ∙ part-length r headSize l (omega (arith, long, s))
-
--- it is decided by them, and one over 96 bytes whatever they are
-pub any-message : (t : Table) (r m : List ℕ) (q : Input) (i l : ℕ) → q ≡ input.Message i l → ReadOf r q m
-    → ofOpen t i (message stateRows t i l m) ≡ serveBy stateRows t r q
-unfolding message _⇒_∣_
-any-message t r m q i l e h = go (ltb blockSize l) refl
-  where
-    go : (b : Bool) → ltb blockSize l ≡ b → ofOpen t i (message stateRows t i l m) ≡ serveBy stateRows t r q
-    go true f = rw (e, f)
-    go false f = rw e (ap (λ (m : List ℕ). ofOpen t i (message stateRows t i l m)) (h .message i l e (ltb-false _ _ f)))
+-- a record that was read has at least its size
+pub read-whole : (r : List ℕ) (q : Input) → inputOf r ≡ q → leastSize q ≤ length r
+read-whole r q e = subst (λ (q : Input). leastSize q ≤ length r) e (read-long r)
 
 -- ---- the call
 
@@ -113,7 +121,7 @@ any-message t r m q i l e h = go (ltb blockSize l) refl
 pub call-on : (img r room : List ℕ) → soundImage img ≡ true
     → leaving img room
     (not (isReadable (inputOf r)) ⇒ refused (tableOf img) notARecord
-    ∣ ltb (length room) roomSize ⇒ refused (tableOf img) littleRoom
+    ∣ ltb (length room) (roomFor (inputOf r)) ⇒ refused (tableOf img) littleRoom
     ∣ serveBy stateRows (tableOf img) r (inputOf r))
     ≡ callOf img r room
 unfolding callOf stepBy

@@ -89,18 +89,19 @@ place t i e f x s w d h z g k = has-place t i x s e (due t i e x (sym d ∙ h)) 
 
 -- by their tags
 abbrev eventless : List ℕ
-eventless = 0 ∷ 1 ∷ 2 ∷ 3 ∷ 4 ∷ 5 ∷ []
+eventless = 0 ∷ 1 ∷ 2 ∷ 3 ∷ 4 ∷ 5 ∷ 12 ∷ []
 
 pub not-read : (t : Table) (r : List ℕ) (q : Input) → OneOf eventless (tagOf the-input.the-type q) → isOfLine q ≡ true → refused t notARecord ≡ serveBy stateRows t r q
 not-read t r input.Unreadable k h = refl
-not-read t r input.Padded k h = refl
+not-read t r input.Malformed k h = refl
 not-read t r (input.AddPpa p) k h = absurd (false≢true h)
 not-read t r input.Open k h = absurd (false≢true h)
 not-read t r (input.Close i) k h = absurd (false≢true h)
-not-read t r (input.Message i l) k h = absurd (false≢true h)
+not-read t r (input.Message i l n) k h = absurd (false≢true h)
 not-read t r (input.CallArrives p sap) k h = absurd (miss eventless 6 tt k)
 not-read t r (input.PeerAccepted i) k h = absurd (miss eventless 7 tt k)
 not-read t r (input.PeerGone i reason) k h = absurd (miss eventless 8 tt k)
 not-read t r (input.CallWithdrawn i n reason) k h = absurd (miss eventless 9 tt k)
 not-read t r (input.PeerReset i reason) k h = absurd (miss eventless 10 tt k)
 not-read t r (input.ResetConfirmed i) k h = absurd (miss eventless 11 tt k)
+not-read t r (input.Frame f) k h = absurd (false≢true h)

@@ -35,20 +35,21 @@ pub record RightlyBrought (t : Table) (r : List ℕ) (b : Brought) (o : Outcome)
   pub comes : broughtBy t r b ≡ o
   pub fits : Bringable b
 
--- The records of the line, and what could not be read.
+-- The records of the line that come to one stream, and what could not be read.
 abbrev pub isOfLine : Input → Bool
 isOfLine input.Unreadable = true
-isOfLine input.Padded = true
+isOfLine input.Malformed = true
 isOfLine (input.AddPpa p) = false
 isOfLine input.Open = false
 isOfLine (input.Close i) = false
-isOfLine (input.Message i l) = false
+isOfLine (input.Message i l n) = false
 isOfLine (input.CallArrives p sap) = true
 isOfLine (input.PeerAccepted i) = true
 isOfLine (input.PeerGone i reason) = true
 isOfLine (input.CallWithdrawn i n reason) = true
 isOfLine (input.PeerReset i reason) = true
 isOfLine (input.ResetConfirmed i) = true
+isOfLine (input.Frame f) = false
 
 -- ---- what is asked of the table
 

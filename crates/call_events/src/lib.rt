@@ -97,13 +97,12 @@ fn named(img: &[u8], i: u8, event: Event) -> Brought
     Brought::To(i, UNEXPECTED, event)
 }
 
-// The called MAC is that of the PPA. In the record the called address comes first, its MAC before its SAP.
+// In the record the called address comes first, its MAC before its SAP.
 fn is_called(img: &[u8], p: PpaNumber, r: &[u8]) -> bool
     requires { ⌜ Lent (now img) ⌝ }
     ensures { λ b. ⌜ b ≡ sameBytes (take macSize (calledIn (now (r .entry)))) (macOf (tableOf (now (img .entry))) p) ⌝ }
 {
-    let mac = table_lookup::mac_of(img, p);
-    octets::same_bytes(octets::part_at(r, 5, MAC_SIZE), &mac)
+    table_lookup::has_mac(img, p, octets::part_at(r, 5, MAC_SIZE))
 }
 
 // I comes to its listener, with the next number: 7 unless the PPA is known and has the called MAC, and somebody listens for it

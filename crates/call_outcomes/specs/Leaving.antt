@@ -8,7 +8,8 @@ use Rattle.ledger.specs.Choice.{_⇒_∣_}
 use Rattle.octets.specs.Runs.{over}
 use Rattle.paper.specs.RecordsOut.{allBytes}
 use Rattle.paper.specs.Refusals.{notSound, Outcome}
-use Rattle.paper.specs.Step.{step, roomSize}
+use Rattle.paper.specs.Room.{frameRoomSize}
+use Rattle.paper.specs.Step.{step}
 use Rattle.table_image.specs.Layout.{tableOf, imageOf, tidy}
 
 pub record Left : Type 0 where
@@ -49,10 +50,11 @@ leaving img room o =
 unfoldable pub callOf : List ℕ → List ℕ → List ℕ → Left
 callOf img r room = not (tidy img) ⇒ left (refusing notSound) img room ∣ leaving img room (step (tableOf img) r (length room))
 
--- ---- as the programs make it: with a room of zeros, as large as a call needs
+-- ---- as the programs make it: in a room as large as any call needs
 
+-- What stood in the room before is not seen in what they print: for them it is zeros.
 abbrev pub callMade : List ℕ → List ℕ → Left
-callMade img r = callOf img r (replicate roomSize 0)
+callMade img r = callOf img r (replicate frameRoomSize 0)
 
 abbrev pub isRefused : Left → Bool
 isRefused l = ltb 0 (refusalIn (l .number))

@@ -2,7 +2,7 @@
 use Prim.Native.Nat.{ℕ, _≤_}
 use mathlib.Core.List.{List}
 use lib.ListN.{length}
-use Rattle.paper.specs.Step.{roomSize}
+use Rattle.paper.specs.Room.{roomSize}
 use Rattle.table_image.specs.Lent.{Lent, LentAt}
 
 -- as much room as a call needs

@@ -8,7 +8,7 @@ use Rattle.octets.specs.Runs.{Bytes}
 use Rattle.octets.proofs.Runs.{to-areBytes}
 use Rattle.ledger.specs.Choice.{_⇒_∣_}
 use Rattle.paper.specs.Base.{fresh}
-use Rattle.paper.specs.Step.{roomSize}
+use Rattle.paper.specs.Room.{frameRoomSize}
 use Rattle.table_image.specs.Layout.{imageOf, soundImage, imageSize}
 use Rattle.call_outcomes.specs.Leaving.{callMade}
 use Rattle.call_outcomes.specs.Fresh.{freshOf}
@@ -24,7 +24,7 @@ use Rattle.fates.specs.Told.{Told, linesBy}
 pub told-next : (img register r : List ℕ) → Told img register → Bytes r → Told (callMade img r .image) (enteredAll (linesBy r (callMade img r)) register)
 told-next img register r w b =
     let x : Harness = w .harness in
-    let c : Lending = record { bytes = r; areBytes = to-areBytes r b; room = replicate roomSize 0 } in
+    let c : Lending = record { bytes = r; areBytes = to-areBytes r b; room = replicate frameRoomSize 0 } in
     rw (w .table, w .entered) (record {
       harness = andThen x c;
       table = sym (image-more x c);

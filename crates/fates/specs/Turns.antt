@@ -6,6 +6,7 @@ use mathlib.Core.List.{List}
 use lib.ListN.{length}
 use Rattle.octets.specs.Runs.{paste}
 use Rattle.octets.specs.Writing.{WroteMost}
+use Rattle.paper.specs.Room.{frameRoomSize}
 use Rattle.call_outcomes.specs.Leaving.{callMade}
 use Rattle.fates_book.specs.declared.Line.{Line}
 use Rattle.fates_register.specs.Register.{registerSize, enteredAll}
@@ -23,11 +24,12 @@ textOn table register input t = allText (linesOn table input t) register
 
 -- ---- one call
 
--- a table and a register of what was heard, and room for the text of a call
-pub record CallRoom (table register out : List ℕ) (at : ℕ) : Type 0 where
+-- a table and a register of what was heard, as much room as any call needs, and room for the text of a call
+pub record CallRoom (table register room out : List ℕ) (at : ℕ) : Type 0 where
   pub told : Told table register
   pub long : length register ≡ registerSize
-  pub room : at + toldSize ≤ length out
+  pub roomy : length room ≡ frameRoomSize
+  pub prints : at + toldSize ≤ length out
 
 -- the lines of the call are entered, and their text is written
 pub record CallTold (table register bytes out : List ℕ) (at : ℕ) (table' register' out' : List ℕ) (end : ℕ) : Type 0 where
@@ -36,26 +38,28 @@ pub record CallTold (table register bytes out : List ℕ) (at : ℕ) (table' reg
   pub entered : register' ≡ enteredAll (linesBy bytes (callMade table bytes)) register
   pub wrote : WroteMost toldSize (allText (linesBy bytes (callMade table bytes)) register) at end out out'
 
--- ---- a turn: its table and register are of what was heard, and its buffers are whole
+-- ---- a turn: its table and register are of what was heard, and its room and its buffers are whole
 
-pub record Standing (table register input output : List ℕ) (t : Turn) : Type 0 where
+pub record Standing (table register room input output : List ℕ) (t : Turn) : Type 0 where
   pub told : Told table register
   pub long : length register ≡ registerSize
+  pub roomy : length room ≡ frameRoomSize
   pub reads : length input ≡ bufferSize
   pub prints : length output ≡ bufferSize
   pub fine : Fine t
 
 -- with room for what a call prints
-pub record AtTurn (table register input output : List ℕ) (t : Turn) : Type 0 where
+pub record AtTurn (table register room input output : List ℕ) (t : Turn) : Type 0 where
   pub told : Told table register
   pub long : length register ≡ registerSize
+  pub roomy : length room ≡ frameRoomSize
   pub reads : length input ≡ bufferSize
   pub prints : length output ≡ bufferSize
   pub ready : Ready t
 
 -- and a number for it
-pub record AtCall (table register input output : List ℕ) (t : Turn) : Type 0 where
-  pub turn : AtTurn table register input output t
+pub record AtCall (table register room input output : List ℕ) (t : Turn) : Type 0 where
+  pub turn : AtTurn table register room input output t
   pub numbered : t .calls < mostCalls
 
 -- ---- what is left: after the call of a turn, after the turn, and after any turns

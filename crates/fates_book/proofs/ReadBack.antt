@@ -10,8 +10,8 @@ use lib.Dec.{eqb}
 use native.Mathlib.Omega.{arith}
 use borrow.Author.Tests.{eqb-false}
 use Rattle.ledger.specs.Choice.{pick, _⇒_∣_}
-use Rattle.paper.specs.RecordsOut.{Record, order, flush, up, bytesOf, allBytes, sizeOut}
-use Rattle.paper.specs.Replies.{fieldsOf, goesAsC, contentOf}
+use Rattle.paper.specs.RecordsOut.{Record, order, flush, up, unitdata, datum, bytesOf, allBytes, sizeOut}
+use Rattle.paper.specs.Replies.{fieldsOf, unitdataFields, goesAsC, contentOf}
 use Rattle.paper.specs.declared.LineOrder.{LineOrder}
 use Rattle.paper.specs.declared.LineOrder.the-variants as lineOrder
 use Rattle.paper.specs.declared.Reply.{Reply}
@@ -19,7 +19,7 @@ use Rattle.paper.specs.declared.Reply.the-variants as reply
 use Rattle.paper.specs.declared.Input.{Input}
 use Rattle.paper.specs.declared.Input.the-variants as input
 use Rattle.paper.specs.declared.Correlation.{Correlation}
-use Rattle.paper.proofs.Sizes.{up-size}
+use Rattle.paper.proofs.Sizes.{up-size, unitdata-size}
 use Rattle.fates_book.specs.declared.End.{End}
 use Rattle.fates_book.specs.declared.End.the-variants.{Accepted, Denied, Withdrawn, Dropped}
 use Rattle.fates_book.specs.declared.Line.{Line}
@@ -27,25 +27,28 @@ use Rattle.fates_book.specs.declared.Line.the-variants.{Came, Went, Give
 use Rattle.fates_book.specs.Lines.{asker, parting, endLine, upLine, lineAt, recordsIn}
 use Rattle.fates_book.proofs.Said.{orderLine, replyLine, lineOf}
 use Rattle.octets.proofs.Numbers.{be32At-be32}
-use Rattle.paper.specs.RecordsIn.{messageSize}
+use Rattle.paper.specs.RecordsIn.{messageSize, mostData}
 use Rattle.octets.specs.Blocks.{blockSize}
-use Rattle.paper.specs.Base.{addressSize}
+use Rattle.paper.specs.Base.{addressSize, mostAddress}
 
 -- ---- records told apart
 
--- the bytes behind an order: an address of a connect, none else
+-- the bytes behind an order: an address of a connect or of a datagram, none else
 abbrev behindSize : LineOrder → ℕ
 behindSize (lineOrder.Connect at) = addressSize
 behindSize (lineOrder.Accept n) = 0
 behindSize (lineOrder.Disconnect n reason) = 0
 behindSize lineOrder.Reset = 0
 behindSize lineOrder.ResetAnswer = 0
+behindSize (lineOrder.Unitdata at form) = mostAddress
 
 -- a record of its size
 abbrev pub Sized : Record → Type 0
 Sized (order i o called) = length called ≡ behindSize o
 Sized (flush i) = 0 ≤ 0
 Sized (up i r tail) = length (fieldsOf r) * 4 + length tail ≤ blockSize
+Sized (unitdata i form addresses) = length (unitdataFields form) * 4 + length addresses ≤ blockSize
+Sized (datum i body) = length body ≡ 1 + mostData
 
 abbrev pub AllSized : List Record → Type 0
 AllSized [] = 0 ≤ 0
@@ -66,6 +69,7 @@ told-order i (lineOrder.Accept n) called rest h = record { kind = 97; others = _
 told-order i (lineOrder.Disconnect n reason) called rest h = record { kind = 100; others = _; form = refl; size = omega arith; some = refl }
 told-order i lineOrder.Reset called rest h = record { kind = 114; others = _; form = refl; size = omega arith; some = refl }
 told-order i lineOrder.ResetAnswer called rest h = record { kind = 115; others = _; form = refl; size = omega arith; some = refl }
+told-order i (lineOrder.Unitdata at form) called rest h = record { kind = 117; others = _; form = refl; size = omega arith; some = refl }
 
 -- P or C
 kind-size : (b : Bool) → sizeOut (pick b 67 80) ≡ messageSize
@@ -84,6 +88,8 @@ told-record (up i r tail) rest h = record {
   size = kind-size (goesAsC r) ∙ sym (up-size i r tail h);
   some = ap (λ (n : ℕ). eqb n 0) (kind-size (goesAsC r));
 }
+told-record (unitdata i form addresses) rest h = record { kind = 80; others = _; form = refl; size = sym (unitdata-size i form addresses h); some = refl }
+told-record (datum i body) rest h = record { kind = 77; others = _; form = refl; size = omega arith; some = refl }
 
 -- a record takes a byte at least
 enough-bytes : (rs : List Record) → AllSized rs → length rs ≤ length (allBytes rs)
@@ -132,6 +138,7 @@ order-said q i (lineOrder.Accept n) called rest = ap (λ (m : ℕ). Went (asker 
 order-said q i (lineOrder.Disconnect n reason) called rest = ap (λ (m : ℕ). endLine i m (parting q)) (be32At-be32 (n .0) []) ∙ end-said i (n .0) (parting q)
 order-said q i lineOrder.Reset called rest = refl
 order-said q i lineOrder.ResetAnswer called rest = refl
+order-said q i (lineOrder.Unitdata at form) called rest = refl
 
 reply-said : (q : Input) (i : ℕ) (r : Reply) (tail rest : List ℕ) → lineAt q (bytesOf (up i r tail) ++ rest) ≡ replyLine i r
 unfolding lineAt upLine contentOf _⇒_∣_
@@ -145,12 +152,15 @@ reply-said q i (reply.TokenAck k) tail rest = refl
 reply-said q i (reply.DisconnectInd reason n) tail rest = ap (λ (m : ℕ). endLine i m Withdrawn) (be32At-be32 (n .0) []) ∙ end-said i (n .0) Withdrawn
 reply-said q i (reply.ResetInd reason) tail rest = refl
 reply-said q i reply.ResetCon tail rest = refl
+reply-said q i (reply.UderrorInd error) tail rest = refl
 
 record-said : (q : Input) (r : Record) (rest : List ℕ) → lineAt q (bytesOf r ++ rest) ≡ lineOf q r
-unfolding lineAt _⇒_∣_
+unfolding lineAt upLine _⇒_∣_
 record-said q (order i o called) rest = order-said q i o called rest
 record-said q (flush i) rest = refl
 record-said q (up i r tail) rest = reply-said q i r tail rest
+record-said q (unitdata i form addresses) rest = refl
+record-said q (datum i body) rest = refl
 
 pub lines-said : (q : Input) (rs : List Record) → map (lineAt q) (starts rs) ≡ map (lineOf q) rs
 lines-said q [] = refl
@@ -159,14 +169,14 @@ lines-said q (r ∷ rs) = ap (λ (y : Line). y ∷ map (lineAt q) (starts rs)) (
 -- ---- which record says which end
 
 -- An a for a message says that the asker's was accepted,
-pub accept-line : (i l c : ℕ) (n : Correlation) (rest : List ℕ)
-    → lineAt (input.Message i l) (bytesOf (order c (lineOrder.Accept n) []) ++ rest) ≡ Went i (n .0) Accepted
-accept-line i l c n rest = order-said (input.Message i l) c (lineOrder.Accept n) [] rest
+pub accept-line : (i l d c : ℕ) (n : Correlation) (rest : List ℕ)
+    → lineAt (input.Message i l d) (bytesOf (order c (lineOrder.Accept n) []) ++ rest) ≡ Went i (n .0) Accepted
+accept-line i l d c n rest = order-said (input.Message i l d) c (lineOrder.Accept n) [] rest
 
 -- a d with a number other than 0 for a message that it was denied, for a close that it was dropped,
-pub denial-line : (i l j : ℕ) (n : Correlation) (reason : ℕ) (rest : List ℕ) → eqb (n .0) 0 ≡ false
-    → lineAt (input.Message i l) (bytesOf (order j (lineOrder.Disconnect n reason) []) ++ rest) ≡ Went j (n .0) Denied
-denial-line i l j n reason rest h = order-said (input.Message i l) j (lineOrder.Disconnect n reason) [] rest ∙ ap (λ (b : Bool). pick b Nothing (Went j (n .0) Denied)) h
+pub denial-line : (i l d j : ℕ) (n : Correlation) (reason : ℕ) (rest : List ℕ) → eqb (n .0) 0 ≡ false
+    → lineAt (input.Message i l d) (bytesOf (order j (lineOrder.Disconnect n reason) []) ++ rest) ≡ Went j (n .0) Denied
+denial-line i l d j n reason rest h = order-said (input.Message i l d) j (lineOrder.Disconnect n reason) [] rest ∙ ap (λ (b : Bool). pick b Nothing (Went j (n .0) Denied)) h
 
 pub drop-line : (i j : ℕ) (n : Correlation) (reason : ℕ) (rest : List ℕ) → eqb (n .0) 0 ≡ false
     → lineAt (input.Close i) (bytesOf (order j (lineOrder.Disconnect n reason) []) ++ rest) ≡ Went j (n .0) Dropped

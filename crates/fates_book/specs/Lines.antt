@@ -13,39 +13,42 @@ use Rattle.fates_book.specs.declared.End.{End}
 use Rattle.fates_book.specs.declared.End.the-variants.{Accepted, Denied, Withdrawn, Dropped}
 use Rattle.fates_book.specs.declared.Line.{Line}
 use Rattle.fates_book.specs.declared.Line.the-variants.{Began, Came, Went, Given, Nothing}
-use Rattle.paper.specs.RecordsOut.{isMessage, sizeOut, startSize}
+use Rattle.paper.specs.RecordsIn.{isMessage}
+use Rattle.paper.specs.RecordsOut.{sizeOut, startSize}
 
 -- ---- the record lent
 
 -- The stream that a message came from. An order a names the stream that carries the call; the indication is this one's.
 abbrev pub asker : Input → ℕ
 asker input.Unreadable = 0
-asker input.Padded = 0
+asker input.Malformed = 0
 asker (input.AddPpa p) = 0
 asker input.Open = 0
 asker (input.Close i) = i
-asker (input.Message i l) = i
+asker (input.Message i l n) = i
 asker (input.CallArrives p sap) = 0
 asker (input.PeerAccepted i) = i
 asker (input.PeerGone i reason) = i
 asker (input.CallWithdrawn i n reason) = i
 asker (input.PeerReset i reason) = i
 asker (input.ResetConfirmed i) = i
+asker (input.Frame f) = 0
 
 -- What an order d with a number means: dropped for a close, denied else.
 abbrev pub parting : Input → End
 parting input.Unreadable = Denied
-parting input.Padded = Denied
+parting input.Malformed = Denied
 parting (input.AddPpa p) = Denied
 parting input.Open = Denied
 parting (input.Close i) = Dropped
-parting (input.Message i l) = Denied
+parting (input.Message i l n) = Denied
 parting (input.CallArrives p sap) = Denied
 parting (input.PeerAccepted i) = Denied
 parting (input.PeerGone i reason) = Denied
 parting (input.CallWithdrawn i n reason) = Denied
 parting (input.PeerReset i reason) = Denied
 parting (input.ResetConfirmed i) = Denied
+parting (input.Frame f) = Denied
 
 -- ---- a record written, at the start of some bytes
 

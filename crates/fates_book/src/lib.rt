@@ -38,17 +38,18 @@ fn asker(q: Input) -> u8
 {
     match q {
         Input::Unreadable => 0,
-        Input::Padded => 0,
+        Input::Malformed => 0,
         Input::AddPpa(_) => 0,
         Input::Open => 0,
         Input::Close(i) => i,
-        Input::Message(i, _) => i,
+        Input::Message(i, _, _) => i,
         Input::CallArrives(_, _) => 0,
         Input::PeerAccepted(i) => i,
         Input::PeerGone(i, _) => i,
         Input::CallWithdrawn(i, _, _) => i,
         Input::PeerReset(i, _) => i,
         Input::ResetConfirmed(i) => i,
+        Input::Frame(_) => 0,
     }
 }
 
@@ -58,17 +59,18 @@ fn parting(q: Input) -> End
 {
     match q {
         Input::Unreadable => End::Denied,
-        Input::Padded => End::Denied,
+        Input::Malformed => End::Denied,
         Input::AddPpa(_) => End::Denied,
         Input::Open => End::Denied,
         Input::Close(_) => End::Dropped,
-        Input::Message(_, _) => End::Denied,
+        Input::Message(_, _, _) => End::Denied,
         Input::CallArrives(_, _) => End::Denied,
         Input::PeerAccepted(_) => End::Denied,
         Input::PeerGone(_, _) => End::Denied,
         Input::CallWithdrawn(_, _, _) => End::Denied,
         Input::PeerReset(_, _) => End::Denied,
         Input::ResetConfirmed(_) => End::Denied,
+        Input::Frame(_) => End::Denied,
     }
 }
 

@@ -2,27 +2,30 @@
 use Prim.Native.Nat.{ℕ, zero, suc, _+_, _-_, _*_, _≤_, _<_}
 use native.Mathlib.Omega.{arith}
 use mathlib.Core.Path.{_≡_, refl, sym, ap, _∙_}
+use mathlib.Core.Bool.{true}
 use mathlib.Core.List.{List, [], _∷_, _++_, append-assoc, append-nil}
 use lib.ListN.{length, getD, drop, length-append, drop-of-length-le}
 use lib.Seq.{drop-cons, drop-drop}
-use borrow.Author.Tests.{eq-eqb, ne-eqb}
+use lib.Dec.{eqb}
+use borrow.Author.Tests.{eqb-true, eq-eqb, ne-eqb}
 use Rattle.ledger.specs.Choice.{_⇒_∣_}
 use Rattle.ledger.proofs.Tallies.{chosen}
 use Rattle.octets.specs.Numbers.{be32At}
 use Rattle.octets.proofs.Writing.{Unwritten, all-unwritten, less-unwritten, none-unwritten, wrote-then, wrote-most, wrote-of}
 use Rattle.text.proofs.Laws.{decimal-most}
+use Rattle.replay_transcript.proofs.Laws.{message-out}
 use Rattle.paper.specs.declared.Input.{Input}
-use Rattle.paper.specs.RecordsOut.{sizeOut}
+use Rattle.paper.specs.RecordsOut.{acceptSize, disconnectSize, sizeOut}
 use Rattle.paper.proofs.Sizes.{size-within}
 use Rattle.fates_book.specs.declared.End.{End}
 use Rattle.fates_book.specs.declared.End.the-variants.{Accepted, Denied, Withdrawn, Dropped}
 use Rattle.fates_book.specs.declared.Line.{Line}
 use Rattle.fates_book.specs.declared.Line.the-variants.{Began, Went}
-use Rattle.fates_book.specs.Lines.{asker, endLine, upLine, lineAt, recordsIn, linesIn, openingLines}
+use Rattle.fates_book.specs.Lines.{asker, parting, endLine, upLine, lineAt, recordsIn, linesIn, openingLines}
 use Rattle.fates_register.specs.Register.{pageOf, openOn, entered, enteredAll}
 use Rattle.fates_register.proofs.Laws.{entered-append}
 use Rattle.fates_report.specs.Report.{wordCall, wordOf, wordStillOpen, spacedNumber, numbers, indicationLine, openLines, endText, lineText}
-use Rattle.fates_report.specs.Report.{allText, endTexts, openOnAll, spacedSize, fateSize, indicationSize, Telling, TellingOf}
+use Rattle.fates_report.specs.Report.{allText, endTexts, openOnAll, spacedSize, fateSize, indicationSize, perByte, Telling, TellingOf}
 
 -- ---- numbers
 
@@ -133,11 +136,25 @@ up-most b l =
     chosen (Short l) _ _ _ (λ q. omega arith)
     (λ q. chosen (Short l) _ _ _ (λ q. omega arith) (λ q. chosen (Short l) _ _ _ (λ q. end-most _ _ Withdrawn l) (λ q. omega arith)))
 
-pub said-most : (q : Input) (b l : List ℕ) → length (lineText (lineAt q b) l) ≤ indicationSize
+-- what says something is an order a, an order d or a message
+accept-out : (k : ℕ) → eqb k 97 ≡ true → sizeOut k ≡ acceptSize
+unfolding sizeOut _⇒_∣_
+accept-out k e = ap sizeOut (eqb-true k 97 e)
+
+disconnect-out : (k : ℕ) → eqb k 100 ≡ true → sizeOut k ≡ disconnectSize
+unfolding sizeOut _⇒_∣_
+disconnect-out k e = ap sizeOut (eqb-true k 100 e)
+
+pub said-most : (q : Input) (b l : List ℕ) → length (lineText (lineAt q b) l) ≤ perByte * sizeOut (getD b 0 0)
 unfolding lineAt lineText
 said-most q b l =
-    chosen (Short l) _ _ _ (λ e. went-most (asker q) (be32At b 2) Accepted l)
-    (λ e. chosen (Short l) _ _ _ (λ e. end-most _ _ _ l) (λ e. chosen (Short l) _ _ _ (λ e. up-most b l) (λ e. omega arith)))
+    let k : ℕ = getD b 0 0 in
+    chosen Fits _ _ _ (λ e. omega (arith, went-most (asker q) (be32At b 2) Accepted l, accept-out k e))
+    (λ e. chosen Fits _ _ _ (λ e. omega (arith, end-most (getD b 1 0) (be32At b 2) (parting q) l, disconnect-out k e))
+    (λ e. chosen Fits _ _ _ (λ e. omega (arith, up-most b l, message-out k e)) (λ e. omega arith)))
+  where
+    Fits : Line → Type 0
+    Fits y = length (lineText y l) ≤ perByte * sizeOut (getD b 0 0)
 
 -- ---- the records of a call
 

@@ -11,7 +11,8 @@ use Rattle.paper.specs.Base.{streamTotal}
 use Rattle.paper.specs.Saps.{mostOpen}
 use Rattle.paper.specs.RecordsIn.{messageSize}
 use Rattle.paper.specs.declared.Input.{Input}
-use Rattle.paper.specs.Step.{roomSize}
+use Rattle.paper.specs.RecordsOut.{acceptSize}
+use Rattle.paper.specs.Room.{frameRoomSize}
 use Rattle.fates_book.specs.declared.End.{End}
 use Rattle.fates_book.specs.declared.End.the-variants.{Accepted, Denied, Withdrawn, Dropped}
 use Rattle.fates_book.specs.declared.Line.{Line}
@@ -139,12 +140,13 @@ endsSize = streamTotal * endSize
 abbrev pub closingSize : ℕ
 closingSize = endsSize + countsSize
 
--- A record out has two bytes at least, and one that is cut begins in the room.
+-- What is printed for each byte of a record out: of those that say something an order a is the shortest.
 abbrev pub perByte : ℕ
-perByte = (indicationSize + 1) / 2
+perByte = indicationSize / acceptSize + 1
 
+-- The records stand in a room, and one that is cut begins there.
 abbrev pub recordsSize : ℕ
-recordsSize = perByte * (roomSize + messageSize)
+recordsSize = perByte * (frameRoomSize + messageSize)
 
 abbrev pub toldSize : ℕ
 toldSize = endSize + recordsSize
@@ -177,7 +179,7 @@ pub record TokenRoom (token : ℕ) (register : List ℕ) (size at : ℕ) (out : 
 
 -- and what was written into a room
 pub record WrittenRoom (written register : List ℕ) (size at : ℕ) (out : List ℕ) : Type 0 where
-  pub short : length written ≤ roomSize
+  pub short : length written ≤ frameRoomSize
   pub lent : RegisterRoom register size at out
 
 -- k cells of any list, and room for their numbers

@@ -9,6 +9,7 @@ use Rattle.ledger.specs.Choice.{_⇒_∣_}
 use Rattle.ledger.specs.Tally.{oneIf}
 use Rattle.paper.specs.Base.{fresh}
 use Rattle.paper.specs.RecordsIn.{recordSize}
+use Rattle.paper.specs.Room.{frameRoomSize}
 use Rattle.table_image.specs.Layout.{imageOf, soundImage, imageSize}
 use Rattle.call_outcomes.specs.Leaving.{callMade, isRefused}
 
@@ -23,6 +24,11 @@ ran n img = record { number = n; image = img }
 -- How many bytes are read: the record, or all where its size is 0.
 unfoldable pub passed : List ℕ → ℕ
 passed bytes = eqb (recordSize bytes) 0 ⇒ length bytes ∣ recordSize bytes
+
+-- A sound table, and as much room as any call needs.
+pub record CallRoom (img room : List ℕ) : Type 0 where
+  pub sound : soundImage img ≡ true
+  pub roomy : length room ≡ frameRoomSize
 
 -- What one call leaves: its image, sound again, and whether it was refused.
 pub record Called (img bytes img' : List ℕ) (refused : Bool) : Type 0 where

@@ -52,28 +52,28 @@ same-grant s q f =
     picked (SameGrant s) (eqb (numberOf q) 0) _ _ (λ e b. absurd (false≢true b))
     (λ e. picked (SameGrant s) (has (numberOf q) boundStates) _ _ (λ h b. (f .bound h, refl)) (λ h b. absurd (false≢true (sym h ∙ b))))
 
--- ---- an effect on stream i, where stream c carries and m is the message or the record
-module _ (t : Table) (i : ℕ) (q : Input) (c : ℕ) (m : List ℕ) where
+-- ---- an effect of record r on stream i, where stream c carries
+module _ (t : Table) (i : ℕ) (q : Input) (c : ℕ) (r : List ℕ) where
   -- what it says is said of the table
   abbrev ShowsBy : Effect → Table → Type 0
-  ShowsBy e v = Shows t (map (lineOf q) (told i c (slot t i) (macAt t i) m e)) v
+  ShowsBy e v = Shows t (map (lineOf q) (told i c (slot t i) (macAt t i) r e)) v
 
   pub shows-lines : (e : Effect) (ys : List Line) (v : Table) → effectLines q i c e ≡ ys → Shows t ys v → ShowsBy e v
-  shows-lines e ys v l h = subst (λ (zs : List Line). Shows t zs v) (sym (told-lines q i c (slot t i) (macAt t i) m e ∙ l)) h
+  shows-lines e ys v l h = subst (λ (zs : List Line). Shows t zs v) (sym (told-lines q i c (slot t i) (macAt t i) r e ∙ l)) h
 
   -- its order and its message say nothing of indications
   abbrev Quiet : Effect → Type 0
   Quiet e = both (silent (orderLines q i c (e .order))) (silent (upLines i (e .up))) ≡ true
 
   quietly : (e : Effect) → Quiet e → ShowsBy e t
-  quietly e z = shows-still t _ (quiet-told q i c (slot t i) (macAt t i) m e z)
+  quietly e z = shows-still t _ (quiet-told q i c (slot t i) (macAt t i) r e z)
 
   module _ (k : Sound t) (u : slot t i .isOpen ≡ true) (x : StateRow) (o : Telling) (f : Bool) (a : Saying) where
     abbrev makes : Change → Effect
     makes d = acting d o f a
 
     -- the stream goes to the row's next state
-    pub onward-good : mayLead (number (stream t i)) (stream t i .mode) (toState x) ≡ true → Quiet (makes (onward x (stream t i))) → Good t q (done t i c m (makes (onward x (stream t i))))
+    pub onward-good : mayLead (number (stream t i)) (stream t i .mode) (toState x) ≡ true → Quiet (makes (onward x (stream t i))) → Good t q (done t i c r (makes (onward x (stream t i))))
     unfolding enacted carried changed
     onward-good h z =
         let v : Moves (stream t i) (next x) = leads-moves (stream t i) (next x) h in
@@ -82,12 +82,12 @@ module _ (t : Table) (i : ℕ) (q : Input) (c : ℕ) (m : List ℕ) where
           seen = shows-stream t t _ i (settled (next x) (stream t i)) (quietly (makes (onward x (stream t i))) z) (same-grant (stream t i) (next x) (v .fits));
         }
 
-    -- INFO_REQ, TOKEN_REQ: nothing changes where the row leads to its own state
+    -- INFO_REQ, TOKEN_REQ, UNITDATA_REQ: nothing changes where the row leads to its own state
     pub unchanged-good : either (eqb (x .to) (number (stream t i))) (mayLead (number (stream t i)) (stream t i .mode) (toState x)) ≡ true → x .from ≡ number (stream t i)
-        → Quiet (makes Stays) → Good t q (done t i c m (makes (unchanged x (stream t i))))
+        → Quiet (makes Stays) → Good t q (done t i c r (makes (unchanged x (stream t i))))
     unfolding enacted carried changed
     unchanged-good h e z =
-        picked (λ (d : Change). Good t q (done t i c m (makes d))) (eqb (x .to) (x .from)) _ _ (λ _. record { kept = k; seen = quietly (makes Stays) z })
+        picked (λ (d : Change). Good t q (done t i c r (makes d))) (eqb (x .to) (x .from)) _ _ (λ _. record { kept = k; seen = quietly (makes Stays) z })
         (λ n. onward-good (second _ _ h (ap (eqb (x .to)) (sym e) ∙ n)) z)
       where
         second : (a b : Bool) → either a b ≡ true → a ≡ false → b ≡ true
@@ -100,7 +100,7 @@ module _ (t : Table) (i : ℕ) (q : Input) (c : ℕ) (m : List ℕ) where
 
     -- ATTACH: the PPA is the table's
     pub attach-good : (p : PpaNumber) → mayAttach (number (stream t i)) (toState x) ≡ true → knows t p ≡ true
-        → Quiet (makes (Becomes (attachedIn (next x) p))) → Good t q (done t i c m (makes (Becomes (attachedIn (next x) p))))
+        → Quiet (makes (Becomes (attachedIn (next x) p))) → Good t q (done t i c r (makes (Becomes (attachedIn (next x) p))))
     unfolding enacted carried changed knows
     attach-good p h y z =
         let s : Stream = attachedIn (next x) p in
@@ -115,7 +115,7 @@ module _ (t : Table) (i : ℕ) (q : Input) (c : ℕ) (m : List ℕ) where
     -- BIND: the grant is told
     pub bind-good : (b : BindRequest) → mayBind (number (stream t i)) (toState x) ≡ true → MayBind t i b
         → effectLines q i c (makes (Becomes (boundBy t i b (next x)))) ≡ Given i (grantOf (b .mode) (b .most)) ∷ []
-        → Good t q (done t i c m (makes (Becomes (boundBy t i b (next x)))))
+        → Good t q (done t i c r (makes (Becomes (boundBy t i b (next x)))))
     unfolding enacted carried changed
     bind-good b h y l =
         let s : Stream = boundBy t i b (next x) in

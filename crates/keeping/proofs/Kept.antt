@@ -19,9 +19,11 @@ use Rattle.paper.specs.Saps.{listens}
 use Rattle.paper.specs.RecordsIn.{inputOf}
 use Rattle.paper.specs.Refusals.{Outcome}
 use Rattle.paper.specs.Correlations.{occurrences, nextNumber, mostPassed}
+use Rattle.paper.specs.ErrorCodes.{complaintOf}
 use Rattle.paper.specs.StateRows.{connectRes, disconnectReq, callWithdrawn, stateRows, found}
 use Rattle.paper.specs.Sight.{requestAsks, letterOf}
 use Rattle.paper.specs.Effects.{effectOf, eventEffect}
+use Rattle.paper.specs.Datagrams.{shownTo}
 use Rattle.paper.specs.Decide.{isDue}
 use Rattle.paper.specs.Step.{stepBy, step}
 use Rattle.paper.specs.declared.Input.{Input}
@@ -32,8 +34,8 @@ use Rattle.paper.specs.declared.StateRow.{StateRow}
 use Rattle.paper.specs.declared.Event.{Event}
 use Rattle.paper.specs.declared.Found.the-variants.{At}
 use Rattle.paper.proofs.RowFound.{row-from}
-use Rattle.paper.proofs.Fair.{Fair, informs, tellsToken, attaches, detaches, binds, unbinds, connects, acceptsHere, acceptsOn, denies, disconnects, resets, answersReset}
-use Rattle.paper.proofs.Walk.{done, failing, serving, Brings, arriving, accepted, gone, withdrawn, reset, confirmed, Way, refusing, adding, opening, closing, answering, bringing, step-walk}
+use Rattle.paper.proofs.Fair.{Fair, informs, tellsToken, attaches, detaches, binds, unbinds, connects, acceptsHere, acceptsOn, denies, disconnects, resets, answersReset, sendsData}
+use Rattle.paper.proofs.Walk.{done, failing, serving, Brings, arriving, accepted, gone, withdrawn, reset, confirmed, Way, refusing, adding, opening, closing, answering, bringing, showing, step-walk}
 use Rattle.paper.proofs.StateNumbers.{bound-attached}
 use Rattle.paper.proofs.Records.{AddsWhole, adds-whole}
 use Rattle.keeping.specs.Soundness.{Sound}
@@ -43,6 +45,7 @@ use Rattle.keeping.proofs.Leaves.{open-sound, ppa-sound}
 use Rattle.keeping.proofs.Traces.{shows-still, shows-opens}
 use Rattle.keeping.proofs.Rows.{state-rows-fit, rowOf, passes}
 use Rattle.keeping.proofs.Effects.{Good, onward-good, unchanged-good, attach-good, bind-good}
+use Rattle.keeping.proofs.Lines.{quiet-complaint, quiet-frame}
 use Rattle.keeping.proofs.Listeners.{takes-good, less-good, accept-on, accept-here}
 use Rattle.keeping.proofs.Closes.{open-nonzero, close-good}
 use Rattle.keeping.proofs.Lent.{shaped}
@@ -72,22 +75,23 @@ module _ (rows : List StateRow) (f : RowsFit rows) (t : Table) (k : Sound t) whe
   loses-row i cause n h c w = of-asks _ _ (passes rows (stream t i) cause h fitsLosing (f .losing)) (to-both _ _ c (in-nine (ppaNumbers t) (slot t i) n (k .each i) w))
 
   -- ---- what a row serves
-  served-good : (i : ℕ) (x : StateRow) {l : ℕ} {m : List ℕ} {r : Request} {c : ℕ} {v : Service} → slot t i .isOpen ≡ true → found rows (stream t i) (requestAsks r .cause) ≡ At x
-      → Fair t i m r c v → Good t (input.Message i l) (done t i c m (effectOf x (tokenOf i) (stream t i) v))
+  served-good : (i : ℕ) (x : StateRow) (r : List ℕ) {l n : ℕ} {m : List ℕ} {q : Request} {c : ℕ} {v : Service} → slot t i .isOpen ≡ true → found rows (stream t i) (requestAsks q .cause) ≡ At x
+      → Fair t i m q c v → Good t (input.Message i l n) (done t i c r (effectOf x (tokenOf i) (stream t i) v))
   unfolding effectOf
-  served-good i x u h informs = unchanged-good t i _ i _ k u x _ _ _ (passing i h fitsStaying (f .staying)) (row-from rows (stream t i) _ h) refl
-  served-good i x u h tellsToken = unchanged-good t i _ i _ k u x _ _ _ (passing i h fitsStaying (f .staying)) (row-from rows (stream t i) _ h) refl
-  served-good i x u h (attaches y) = attach-good t i _ i _ k u x _ _ _ _ (passing i h fitsAttaching (f .attaching)) y refl
-  served-good i x u h detaches = onward-good t i _ i _ k u x _ _ _ (passing i h fitsMoving (f .moving)) refl
-  served-good i x u h (binds y) = bind-good t i _ i _ k u x _ _ _ _ (passing i h fitsBinding (f .binding)) y refl
-  served-good i x u h unbinds = onward-good t i _ i _ k u x _ _ _ (passing i h fitsMoving (f .moving)) refl
-  served-good i x u h (connects a) = onward-good t i _ i _ k u x _ _ _ (passing i h fitsMoving (f .moving)) refl
-  served-good i x u h (acceptsHere w y) = accept-here t k i u x _ (w .numberOpen) (loses-row i connectRes _ h refl (w .numberOpen)) _ i _ (Nothing ∷ []) refl refl refl y
-  served-good i x u h (acceptsOn w y) = accept-on t k i u x _ (w .numberOpen) (loses-row i connectRes _ h refl (w .numberOpen)) _ _ _ (Nothing ∷ []) refl refl y
-  served-good i x u h (denies e w) = less-good t k i u x _ w (loses-row i disconnectReq _ h refl w) _ i _ _ _ _ Denied (Nothing ∷ []) (rw (open-nonzero t k i _ w)) refl
-  served-good i x u h (disconnects e z) = onward-good t i _ i _ k u x _ _ _ (of-asks _ _ (passing i h fitsDisconnecting (f .disconnecting)) (ap not e)) refl
-  served-good i x u h resets = onward-good t i _ i _ k u x _ _ _ (passing i h fitsMoving (f .moving)) refl
-  served-good i x u h answersReset = onward-good t i _ i _ k u x _ _ _ (passing i h fitsMoving (f .moving)) refl
+  served-good i x r u h informs = unchanged-good t i _ i _ k u x _ _ _ (passing i h fitsStaying (f .staying)) (row-from rows (stream t i) _ h) refl
+  served-good i x r u h tellsToken = unchanged-good t i _ i _ k u x _ _ _ (passing i h fitsStaying (f .staying)) (row-from rows (stream t i) _ h) refl
+  served-good i x r u h (attaches y) = attach-good t i _ i _ k u x _ _ _ _ (passing i h fitsAttaching (f .attaching)) y refl
+  served-good i x r u h detaches = onward-good t i _ i _ k u x _ _ _ (passing i h fitsMoving (f .moving)) refl
+  served-good i x r u h (binds y) = bind-good t i _ i _ k u x _ _ _ _ (passing i h fitsBinding (f .binding)) y refl
+  served-good i x r u h unbinds = onward-good t i _ i _ k u x _ _ _ (passing i h fitsMoving (f .moving)) refl
+  served-good i x r u h (connects a) = onward-good t i _ i _ k u x _ _ _ (passing i h fitsMoving (f .moving)) refl
+  served-good i x r u h (acceptsHere w y) = accept-here t k i u x _ (w .numberOpen) (loses-row i connectRes _ h refl (w .numberOpen)) _ i _ (Nothing ∷ []) refl refl refl y
+  served-good i x r u h (acceptsOn w y) = accept-on t k i u x _ (w .numberOpen) (loses-row i connectRes _ h refl (w .numberOpen)) _ _ _ (Nothing ∷ []) refl refl y
+  served-good i x r u h (denies e w) = less-good t k i u x _ w (loses-row i disconnectReq _ h refl w) _ i _ _ _ _ Denied (Nothing ∷ []) (rw (open-nonzero t k i _ w)) refl
+  served-good i x r u h (disconnects e z) = onward-good t i _ i _ k u x _ _ _ (of-asks _ _ (passing i h fitsDisconnecting (f .disconnecting)) (ap not e)) refl
+  served-good i x r u h resets = onward-good t i _ i _ k u x _ _ _ (passing i h fitsMoving (f .moving)) refl
+  served-good i x r u h answersReset = onward-good t i _ i _ k u x _ _ _ (passing i h fitsMoving (f .moving)) refl
+  served-good i x r u h (sendsData y) = unchanged-good t i _ i _ k u x _ _ _ (passing i h fitsStaying (f .staying)) (row-from rows (stream t i) _ h) refl
 
   -- ---- what the line brings
   brought-good : (i : ℕ) (x : StateRow) (r : List ℕ) {q : Input} {e : Event} → Brings t q i e → found rows (stream t i) (letterOf e) ≡ At x → isDue (slot t i) e ≡ true
@@ -113,9 +117,10 @@ module _ (rows : List StateRow) (f : RowsFit rows) (t : Table) (k : Sound t) whe
   }
   ways-good b w (opening l) = record { kept = open-sound t k (lowestFree t); seen = shows-opens t (lowestFree t) (omega (arith, k .sixteen)) (free-empty t k l) }
   ways-good b w (closing {i} u) = close-good t k _ i u
-  ways-good b w (answering s e (failing v)) = record { kept = k; seen = shows-still t _ refl }
-  ways-good b w (answering {i} s e (serving {x = x} v h y)) = served-good i x (s .isOpen) h y
+  ways-good {q = q} b w (answering {i} s e (failing {w = x} v)) = record { kept = k; seen = shows-still t _ (quiet-complaint q i _ (complaintOf x)) }
+  ways-good {r} b w (answering {i} s e (serving {x = x} v h y)) = served-good i x r (s .isOpen) h y
   ways-good {r} b w (bringing {i = i} {x = x} y h d) = brought-good i x r y h d
+  ways-good {r} {q} b w (showing {f} few y) = record { kept = k; seen = shows-still t _ (quiet-frame q r f (shownTo rows t r f)) }
 
 -- Every call, by any list of state rows that fits.
 pub good : (rows : List StateRow) → RowsFit rows → (t : Table) → Sound t → (r : List ℕ) → Bytes r → (room : ℕ) → Good t (inputOf r) (stepBy rows t r room)

@@ -42,18 +42,18 @@ use Rattle.keeping.proofs.Effects.{Good, same-grant, shows-lines}
 
 module _ (t : Table) (k : Sound t) (i : ℕ) (u : slot t i .isOpen ≡ true) (x : StateRow) (n : Correlation) where
   -- I: one more number, that is free
-  pub takes-good : (q : Input) (c : ℕ) (m : List ℕ) (o : Telling) (f : Bool) (a : Saying) → mayTake (number (stream t i)) (toState x) ≡ true
+  pub takes-good : (q : Input) (c : ℕ) (r : List ℕ) (o : Telling) (f : Bool) (a : Saying) → mayTake (number (stream t i)) (toState x) ≡ true
       → ltb (length (waiting t i)) (stream t i .granted) ≡ true → free (occurrences t) (n .0) ≡ true → n .0 < 2 ^ 32
-      → effectLines q i c (acting (more x (stream t i) n) o f a) ≡ Came i (n .0) ∷ [] → Good t q (done t i c m (acting (more x (stream t i) n) o f a))
+      → effectLines q i c (acting (more x (stream t i) n) o f a) ≡ Came i (n .0) ∷ [] → Good t q (done t i c r (acting (more x (stream t i) n) o f a))
   unfolding enacted carried changed
-  takes-good q c m o f a h l v w y =
+  takes-good q c r o f a h l v w y =
       let d : (isAmong boundStates (stream t i) ≡ true) × (eqb (toState x) 9 ≡ true) = both-of _ _ h in
       let g : length (waiting t i) < stream t i .granted = ltb-true _ _ l in
       let one : stream t i .mode ≡ 1 = allows (stream t i) (k .each i .bound (d .0)) .some (omega arith) in
       let j : Fits (stream t i) (next x) = record { attached = λ _. bound-attached (number (stream t i)) (d .0); bound = λ _. d .0; connected = λ _. one } in
       record {
         kept = more-sound t k i (n .0) (onePast (n .0)) (next x) (omega arith) v w u j (d .1) g;
-        seen = shows-lines t i q c m (acting (more x (stream t i) n) o f a) _ _ y
+        seen = shows-lines t i q c r (acting (more x (stream t i) n) o f a) _ _ y
             (shows-more t i u (settled (next x) (stream t i)) (same-grant (stream t i) (next x) j) (n .0) (onePast (n .0)) (omega (arith, eight (ppaNumbers t) (slot t i) (k .each i))));
       }
 
@@ -104,17 +104,17 @@ module _ (t : Table) (k : Sound t) (i : ℕ) (u : slot t i .isOpen ≡ true) (x 
     unfolding changed
     less-shows d zs z = rw (stands left) (shows-less t i u (settled (goesTo left) (stream t i)) (same-grant (stream t i) (goesTo left) (fits-all (goesTo left))) (n .0) d zs h z)
 
-    module _ (q : Input) (c : ℕ) (m : List ℕ) where
+    module _ (q : Input) (c : ℕ) (r : List ℕ) where
       -- a denial, W
       pub less-good : (o : Telling) (f : Bool) (a : Saying) (d : End) (zs : List Line) → effectLines q i c (acting (less x (stream t i) n) o f a) ≡ Went i (n .0) d ∷ zs → silent zs ≡ true
-          → Good t q (done t i c m (acting (less x (stream t i) n) o f a))
+          → Good t q (done t i c r (acting (less x (stream t i) n) o f a))
       unfolding enacted carried
-      less-good o f a d zs y z = record { kept = less-sound; seen = shows-lines t i q c m (acting (less x (stream t i) n) o f a) _ _ y (less-shows d zs z) }
+      less-good o f a d zs y z = record { kept = less-sound; seen = shows-lines t i q c r (acting (less x (stream t i) n) o f a) _ _ y (less-shows d zs z) }
 
       -- an accept: the carrying stream goes to 11, from a bound state other than 9, in mode 1
       module _ (zs : List Line) (y : effectLines q i c (accepting x (stream t i) n) ≡ Went i (n .0) Accepted ∷ zs) (z : silent zs ≡ true) where
         carrier-good : (s : Slot) → slot (changed t i (less x (stream t i) n)) c ≡ s → s .isOpen ≡ true → isIn 9 (s .stream) ≡ false → isAmong boundStates (s .stream) ≡ true
-            → s .stream .mode ≡ 1 → Good t q (done t i c m (accepting x (stream t i) n))
+            → s .stream .mode ≡ 1 → Good t q (done t i c r (accepting x (stream t i) n))
         unfolding enacted carried
         carrier-good s g p j b one =
             let v : Table = changed t i (less x (stream t i) n) in
@@ -125,11 +125,11 @@ module _ (t : Table) (k : Sound t) (i : ℕ) (u : slot t i .isOpen ≡ true) (x 
             } in
             record {
               kept = settle-sound v less-sound c DataXfer (ap (λ (s : Slot). s .isOpen) g ∙ p) (ap (λ (s : Slot). isIn 9 (s .stream)) g ∙ j) refl f;
-              seen = shows-stream t v _ c (settled DataXfer (stream v c)) (shows-lines t i q c m (accepting x (stream t i) n) _ _ y (less-shows Accepted zs z)) (same-grant (stream v c) DataXfer f);
+              seen = shows-stream t v _ c (settled DataXfer (stream v c)) (shows-lines t i q c r (accepting x (stream t i) n) _ _ y (less-shows Accepted zs z)) (same-grant (stream v c) DataXfer f);
             }
 
         -- another stream, in 6 and not of mode 2
-        pub accept-on : MayCarry t i c → Good t q (done t i c m (accepting x (stream t i) n))
+        pub accept-on : MayCarry t i c → Good t q (done t i c r (accepting x (stream t i) n))
         accept-on f =
             let six : number (stream t c) ≡ 6 = eqb-true _ _ (f .idle) in
             let b : isAmong boundStates (stream t c) ≡ true = ap (λ (m : ℕ). has m boundStates) six in
@@ -137,7 +137,7 @@ module _ (t : Table) (k : Sound t) (i : ℕ) (u : slot t i .isOpen ≡ true) (x 
             (allows (stream t c) (k .each c .bound b) .other (f .notConnectionless))
 
         -- the listener itself, of which no other number is open
-        pub accept-here : c ≡ i → length (waiting t i) ≤ 1 → Good t q (done t i c m (accepting x (stream t i) n))
+        pub accept-here : c ≡ i → length (waiting t i) ≤ 1 → Good t q (done t i c r (accepting x (stream t i) n))
         accept-here g l =
             carrier-good (record { isOpen = true; stream = inState (stateOf (x .last)) (stream t i); waiting = [] })
             (here (empty left (omega (arith, length-without (n .0) (waiting t i) (ltb-true 0 (occ (n .0) (waiting t i)) h))))) refl last-calm last-bound in-mode-one

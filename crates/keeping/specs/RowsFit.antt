@@ -1,5 +1,6 @@
 -- What is asked of a list of state rows so that calls by it keep a sound table sound: of each row, by what comes, a test of the
--- states that it leads from and to. The paper's rows pass.
+-- states that it leads from and to. (Of a frame's row nothing: a frame changes no stream, wherever its row leads.) The paper's rows
+-- pass.
 use Prim.Native.Nat.{ℕ}
 use mathlib.Core.Path.{_≡_}
 use mathlib.Core.Bool.{Bool, true, not}
@@ -9,7 +10,7 @@ use Rattle.ledger.specs.Choice.{both, either, asks}
 use Rattle.ledger.specs.Tally.{has, allOf}
 use Rattle.paper.specs.Base.{numberOf, stateOf, boundStates, connectionStates}
 use Rattle.paper.specs.Effects.{next}
-use Rattle.paper.specs.StateRows.{infoReq, bindReq, unbindReq, attachReq, detachReq, connectReq, connectRes, tokenReq, disconnectReq}
+use Rattle.paper.specs.StateRows.{infoReq, bindReq, unbindReq, unitdataReq, attachReq, detachReq, connectReq, connectRes, tokenReq, disconnectReq}
 use Rattle.paper.specs.StateRows.{resetReq, resetRes, callArrives, peerAccepted, peerGone, callWithdrawn, peerReset, resetConfirmed}
 use Rattle.paper.specs.declared.StateRow.{StateRow}
 
@@ -49,9 +50,9 @@ mayLose to last = both (eqb to 9) (both (not (eqb last 9)) (has last boundStates
 
 -- ---- the tests, by what comes
 
--- INFO_REQ, TOKEN_REQ
+-- INFO_REQ, TOKEN_REQ, UNITDATA_REQ
 abbrev pub fitsStaying : StateRow → Bool
-fitsStaying x = asks (has (x .cause) (infoReq ∷ tokenReq ∷ [])) (either (eqb (x .to) (x .from)) (mayLead (x .from) (x .mode) (toState x)))
+fitsStaying x = asks (has (x .cause) (infoReq ∷ tokenReq ∷ unitdataReq ∷ [])) (either (eqb (x .to) (x .from)) (mayLead (x .from) (x .mode) (toState x)))
 
 abbrev movers : List ℕ
 movers = detachReq ∷ unbindReq ∷ connectReq ∷ resetReq ∷ resetRes ∷ peerAccepted ∷ peerGone ∷ peerReset ∷ resetConfirmed ∷ []

@@ -18,7 +18,7 @@ pub extern "C" fn kungthevi_fresh(table: &mut [u8]) -> u32
     0
 }
 
-// The call: reads the one record at the start of the lent bytes, changes the table, writes its records into the room.
+// The call: reads the one record at the start of the lent bytes, a datagram with its M, changes the table, writes its records into the room.
 // Its number: bytes written in bits 0 to 15, the refusal number in 16 to 23, the token of the stream opened in 24 to 31.
 #[no_mangle]
 pub extern "C" fn kungthevi_call(table: &mut [u8], bytes: &[u8], room: &mut [u8]) -> u32
@@ -27,7 +27,8 @@ pub extern "C" fn kungthevi_call(table: &mut [u8], bytes: &[u8], room: &mut [u8]
     call_engine::call(table, bytes, room)
 }
 
-// How far reading goes on behind the record at the start of the bytes: its size, or 0 where reading ends there.
+// How far reading goes on behind the record at the start of the bytes: its size, of a datagram with its M, or 0 where reading
+// ends there.
 #[no_mangle]
 pub extern "C" fn kungthevi_record_size(bytes: &[u8]) -> u32
     ensures { λ n. ⌜ n ≡ recordSize (now (bytes .entry)) ⌝ }

@@ -9,7 +9,7 @@ use native.Mathlib.Omega.{arith}
 use borrow.Author.Tests.{not-false, not-true, ne-eqb, eq-eqb, eqb-true, eqb-false, ltb-true, ltb-false}
 use mathlib.Core.Logic.{_≢_}
 use Rattle.ledger.specs.Choice.{pick, _⇒_∣_, both, either}
-use Rattle.ledger.specs.Tally.{oneIf, occ, has, without, sumOf, allOf, firstOf}
+use Rattle.ledger.specs.Tally.{oneIf, occ, has, without, sumOf, allOf, ascending, firstOf}
 
 -- how often a number occurs, over a list of what holds numbers
 abbrev pub occOver : {A : Type 0} → (A → List ℕ) → List A → ℕ → ℕ
@@ -136,6 +136,14 @@ pub occ-length : (m : ℕ) (l : List ℕ) → occ m l ≤ length l
 occ-length m [] = omega arith
 occ-length m (x ∷ l) = omega (arith, one-most (eqb m x), occ-length m l)
 
+-- a list that has a number as often as a test holds has it where it holds
+pub has-if : (n : ℕ) (l : List ℕ) (b : Bool) → occ n l ≡ oneIf b → has n l ≡ b
+has-if n l b e = ap (ltb 0) e ∙ go b
+  where
+    go : (b : Bool) → ltb 0 (oneIf b) ≡ b
+    go true = refl
+    go false = refl
+
 -- what a list of one has
 pub has-one : (n a : ℕ) → has n (a ∷ []) ≡ eqb n a
 has-one n a = go (eqb n a)
@@ -199,6 +207,14 @@ at-all p d (x ∷ l) h = to-both _ _ (h 0) (at-all p d l (λ i. h (suc i)))
 pub all-append : {A : Type 0} (p : A → Bool) (a b : List A) → allOf p (a ++ b) ≡ both (allOf p a) (allOf p b)
 all-append p [] b = refl
 all-append p (x ∷ a) b = ap (both (p x)) (all-append p a b) ∙ sym (both-assoc (p x) (allOf p a) (allOf p b))
+
+-- a number over all of an ascending list goes behind it
+pub ascending-more : (l : List ℕ) (n : ℕ) → ascending l ≡ true → allOf (λ (m : ℕ). ltb m n) l ≡ true → ascending (l ++ (n ∷ [])) ≡ true
+ascending-more [] n h g = refl
+ascending-more (m ∷ l) n h g =
+    let a : (allOf (ltb m) l ≡ true) × (ascending l ≡ true) = both-of _ _ h in
+    let b : (ltb m n ≡ true) × (allOf (λ (m : ℕ). ltb m n) l ≡ true) = both-of _ _ g in
+    to-both _ _ (all-append (ltb m) l (n ∷ []) ∙ to-both _ _ (a .0) (to-both _ _ (b .0) refl)) (ascending-more l n (a .1) (b .1))
 
 -- two tests of all in one
 pub all-both : {A : Type 0} (p q : A → Bool) (l : List A) → allOf (λ x. both (p x) (q x)) l ≡ both (allOf p l) (allOf q l)

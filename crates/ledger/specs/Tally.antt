@@ -1,4 +1,4 @@
--- Counts over lists: how often a number occurs, sums, tests of each element, the first that passes a test.
+-- Counts over lists: how often a number occurs, sums, tests of each element and of their order, the first that passes a test.
 use Prim.Native.Nat.{ℕ, zero, suc, _+_, _%_, _^_}
 use mathlib.Core.Bool.{Bool, true, false}
 use mathlib.Core.List.{List, [], _∷_}
@@ -32,6 +32,11 @@ sumOf f (x ∷ l) = f x + sumOf f l
 abbrev pub allOf : {A : Type 0} → (A → Bool) → List A → Bool
 allOf p [] = true
 allOf p (x ∷ l) = both (p x) (allOf p l)
+
+-- each number is under all that follow
+abbrev pub ascending : List ℕ → Bool
+ascending [] = true
+ascending (n ∷ l) = both (allOf (ltb n) l) (ascending l)
 
 -- the place of the first that passes a test, or the length where none does
 abbrev pub firstOf : {A : Type 0} → (A → Bool) → List A → ℕ

@@ -40,6 +40,9 @@ wrote-more h w = wrote-most (omega (arith, w .few)) (wrote-of w)
 pub wrote-same : {x y p q : List ℕ} {at n most : ℕ} → p ≡ q → WroteMost most p at n x y → WroteMost most q at n x y
 wrote-same e w = rw e at w
 
+pub wrote-as : {x y p q : List ℕ} {at n : ℕ} → p ≡ q → Wrote p at n x y → Wrote q at n x y
+wrote-as e w = rw e at w
+
 -- ---- at the start of a room
 
 -- what was written there stands over it

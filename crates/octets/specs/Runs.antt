@@ -14,9 +14,10 @@ Bytes l = (k : ℕ) → getD l k 0 < 256
 abbrev pub areBytes : List ℕ → Bool
 areBytes l = allOf (λ (n : ℕ). ltb n 256) l
 
--- No place that is read stands farther on: sums of places never wrap.
+-- No place that is read stands farther on, though a message says with four bytes where its address begins: sums of places
+-- never wrap.
 abbrev pub farthest : ℕ
-farthest = 4096
+farthest = 8589934592
 
 -- n bytes of a list from a place on
 abbrev pub part : List ℕ → ℕ → ℕ → List ℕ

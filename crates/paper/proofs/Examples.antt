@@ -14,7 +14,7 @@ use Rattle.paper.specs.ErrorOrder.{judgeAttach, judgeListening, judgeBin
 use Rattle.paper.specs.Decide.{effectBy, decideBy}
 use Rattle.paper.specs.Messages.{otherCode, primitiveOf, sized, askedBy}
 use Rattle.paper.specs.Openings.{addsPpa, opens, goodbyes, closes}
-use Rattle.paper.specs.RecordsIn.{kindOf, recordSize, hasNonzeroPadding, inputOf}
+use Rattle.paper.specs.RecordsIn.{kindOf, recordSize, wantsData, hasData, isPair, hasNonzeroPast, sapAt, pairAs, messageAs, frameAs, inputOf}
 use Rattle.paper.specs.RecordsOut.{inOrder}
 use Rattle.paper.specs.Replies.{addressOf, infoOf, infoTail, contentOf}
 use Rattle.paper.specs.Saps.{isSap, isType, grantOf, asBindAllows, listens, listener, isListenedFor}
@@ -26,7 +26,7 @@ pub starred-hold : map cameOf (leadUp ++ starred) ≡ map dueOf (leadUp ++ starr
 unfolding _⇒_∣_ stateOf lowestFree knows macOf withSlot withNumbers withStream withCounter withPpa remembering occurrences nextNumber
     carrierOf answerTo found changed carried enacted ordersIn behindReply upsIn told effectOf eventEffect judgeAttach judgeListening
     judgeBind judgeConnect judgeOther judgeItself judgeCarrier judgeAccept judgeDenial judgeDisconnect judgeRequest effectBy decideBy
-    otherCode primitiveOf sized askedBy addsPpa opens goodbyes closes kindOf recordSize hasNonzeroPadding inputOf inOrder addressOf infoOf
+    otherCode primitiveOf sized askedBy addsPpa opens goodbyes closes kindOf recordSize wantsData hasData isPair hasNonzeroPast sapAt pairAs messageAs frameAs inputOf inOrder addressOf infoOf
     infoTail contentOf isSap isType grantOf asBindAllows listens listener isListenedFor holdsNothing soundSlot isSingle isAlone sound
     conclude comes ofOpen message arrives stepBy
 starred-hold = refl

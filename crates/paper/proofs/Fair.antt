@@ -11,11 +11,12 @@ use borrow.Author.Tests.{eqb-true, eqb-false, ltb-true, ltb-false, le-leb, not-t
 use Rattle.ledger.specs.Choice.{pick, both, either, _⇒_∣_}
 use Rattle.ledger.specs.Tally.{has}
 use Rattle.ledger.proofs.Tallies.{picked, chosen, either-no}
-use Rattle.paper.specs.Base.{isIn, Table, slot, stream, waiting, knows, addressSize}
+use Rattle.paper.specs.Base.{lengthOf, formOf, isIn, Table, slot, stream, waiting, knows, addressSize}
 use Rattle.paper.specs.Saps.{isSap, isType, grantOf, asBindAllows, isListenedFor, mostOpen}
 use Rattle.paper.specs.Messages.{codeIn, primitiveOf, otherCode, sized, readAs, askedBy}
-use Rattle.paper.specs.StateRows.{infoReq, bindReq, unbindReq, attachReq, detachReq, connectReq, connectRes, tokenReq, disconnectReq, resetReq, resetRes}
+use Rattle.paper.specs.StateRows.{infoReq, bindReq, unbindReq, attachReq, detachReq, connectReq, connectRes, tokenReq, disconnectReq, resetReq, resetRes, unitdataReq}
 use Rattle.paper.specs.Sight.{requestAsks, carrierOf, answerTo, sightBy, carrierAt}
+use Rattle.paper.specs.Datagrams.{couldBeBound, judgeDatagram}
 use Rattle.paper.specs.ErrorOrder.{judgeAttach, judgeListening, judgeBind, judgeConnect, judgeOther, judgeItself, judgeCarrier, judgeAccept, judgeDenial, judgeDisconnect, judgeRequest}
 use Rattle.paper.specs.Effects.{boundIn}
 use Rattle.paper.specs.declared.State.{State}
@@ -25,6 +26,7 @@ use Rattle.paper.specs.declared.BindRequest.{BindRequest}
 use Rattle.paper.specs.declared.ConnectRequest.{ConnectRequest}
 use Rattle.paper.specs.declared.ConnectResponse.{ConnectResponse}
 use Rattle.paper.specs.declared.DisconnectRequest.{DisconnectRequest}
+use Rattle.paper.specs.declared.UnitdataRequest.{UnitdataRequest}
 use Rattle.paper.specs.declared.Primitive.{Primitive}
 use Rattle.paper.specs.declared.Primitive.the-variants as primitive
 use Rattle.paper.specs.declared.Request.{Request}
@@ -77,6 +79,14 @@ pub record MayCarry (t : Table) (i c : ℕ) : Type 0 where
   pub samePpa : stream t c .ppa .0 ≡ stream t i .ppa .0
   pub notConnectionless : eqb (stream t c .mode) 2 ≡ false
 
+-- a datagram that may go, of a stream bound to that SAP, in message m: its address is of the stream's own form, behind the fields and
+-- within the message
+pub record MaySend (sap : ℕ) (m : List ℕ) (u : UnitdataRequest) : Type 0 where
+  pub form : u .length ≡ lengthOf (formOf sap)
+  pub behind : 20 ≤ u .offset
+  pub inside : u .offset + u .length ≤ length m
+  pub bindable : couldBeBound (formOf sap) (u .sap) ≡ true
+
 -- Request q of stream i, in message m, is served so, and stream c carries.
 pub data Fair (t : Table) (i : ℕ) (m : List ℕ) : Request → ℕ → Service → Type 0 where
   informs : Fair t i m request.Info i service.Inform
@@ -97,6 +107,7 @@ pub data Fair (t : Table) (i : ℕ) (m : List ℕ) : Request → ℕ → Service
       → Fair t i m (request.Disconnect d) i (service.Disconnect (d .reason))
   resets : Fair t i m request.Reset i service.Reset
   answersReset : Fair t i m request.ResetRes i service.ResetRes
+  sendsData : {u : UnitdataRequest} → MaySend (stream t i .sap) m u → Fair t i m (request.Unitdata u) i (service.Unitdata (u .offset) (formOf (stream t i .sap)))
 
 -- ---- what a request that a rule fails has shown
 
@@ -133,6 +144,11 @@ pub data Faulty (t : Table) (i : ℕ) : Request → Rule → Type 0 where
       → Faulty t i (request.Disconnect d) rule.DenialNotOpen
   notZero : {d : DisconnectRequest} → isIn 9 (stream t i) ≡ false → eqb (d .correlation .0) 0 ≡ false
       → Faulty t i (request.Disconnect d) rule.NumberNotZero
+  -- a datagram's address
+  otherForm : {u : UnitdataRequest} → eqb (u .length) (lengthOf (formOf (stream t i .sap))) ≡ false → Faulty t i (request.Unitdata u) rule.DatagramLength
+  sentEarly : {u : UnitdataRequest} → u .offset < 20 → Faulty t i (request.Unitdata u) rule.DatagramTooEarly
+  sentLate : {u : UnitdataRequest} → u .size < u .offset + u .length → Faulty t i (request.Unitdata u) rule.DatagramTooLate
+  notBindable : {u : UnitdataRequest} → couldBeBound (formOf (stream t i .sap)) (u .sap) ≡ false → Faulty t i (request.Unitdata u) rule.DatagramSapNotAllowed
 
 -- ---- what a bind that may be leaves
 
@@ -163,7 +179,7 @@ bind-unheard {t} {i} {b} h = go (eqb (b .mode) 1) (eqb (b .mode) 2) (ltb 0 (b .m
     go false true some e l o u g = absurd (omega arith)
     go false false some e l o u g = absurd (false≢true o)
 
--- ---- what a message that asks for a request has shown: its code is the request's, and a connect was read with the message's size
+-- ---- what a message that asks for a request has shown: its code is the request's, and a connect or a datagram was read with the message's size
 
 abbrev sizeRead : ℕ → Request → ℕ
 sizeRead l request.Info = l
@@ -177,6 +193,7 @@ sizeRead l (request.ConnectRes a) = l
 sizeRead l (request.Disconnect d) = l
 sizeRead l request.Reset = l
 sizeRead l request.ResetRes = l
+sizeRead l (request.Unitdata u) = u .size
 
 pub record Asks (m : List ℕ) (q : Request) : Type 0 where
   pub coded : codeIn m ≡ requestAsks q .cause
@@ -199,6 +216,7 @@ Coded code primitive.Token = code ≡ tokenReq
 Coded code primitive.Disconnect = code ≡ disconnectReq
 Coded code primitive.Reset = code ≡ resetReq
 Coded code primitive.ResetRes = code ≡ resetRes
+Coded code primitive.Unitdata = code ≡ unitdataReq
 Coded code primitive.NotSupported = Unit {0}
 Coded code primitive.NotServed = Unit {0}
 
@@ -208,7 +226,8 @@ coded code =
     chosen P _ _ _ (eqb-true code infoReq) (λ _. chosen P _ _ _ (eqb-true code attachReq) (λ _. chosen P _ _ _ (eqb-true code detachReq) (λ _.
     chosen P _ _ _ (eqb-true code unbindReq) (λ _. chosen P _ _ _ (eqb-true code bindReq) (λ _. chosen P _ _ _ (eqb-true code connectReq) (λ _.
     chosen P _ _ _ (eqb-true code connectRes) (λ _. chosen P _ _ _ (eqb-true code tokenReq) (λ _. chosen P _ _ _ (eqb-true code disconnectReq) (λ _.
-    chosen P _ _ _ (eqb-true code resetReq) (λ _. chosen P _ _ _ (eqb-true code resetRes) (λ _. chosen P _ _ _ (λ _. tt) (λ _. tt))))))))))))
+    chosen P _ _ _ (eqb-true code resetReq) (λ _. chosen P _ _ _ (eqb-true code resetRes) (λ _.
+    chosen P _ _ _ (eqb-true code unitdataReq) (λ _. chosen P _ _ _ (λ _. tt) (λ _. tt)))))))))))))
   where
     P : Primitive → Type 0
     P = Coded code
@@ -230,6 +249,7 @@ module _ (m : List ℕ) where
   reads primitive.Disconnect c = of-size 12 (request.Disconnect _) c refl
   reads primitive.Reset c = of-size 4 request.Reset c refl
   reads primitive.ResetRes c = of-size 4 request.ResetRes c refl
+  reads primitive.Unitdata c = of-size 20 (request.Unitdata _) c refl
   reads primitive.NotSupported c = wrong
   reads primitive.NotServed c = wrong
 
@@ -280,7 +300,7 @@ module _ (t : Table) (i : ℕ) (m : List ℕ) where
   -- every verdict on a request that message m asks for, by any row
   pub judged-fairly : (x : StateRow) (q : Request) → Asks m q
       → Judged t i m q (carrierAt i (answerTo t i (At x) (requestAsks q .question) .carrier)) (judgeRequest (sightBy t i (At x) (requestAsks q .question)) q)
-  unfolding answerTo judgeRequest judgeAttach judgeBind judgeListening judgeConnect judgeAccept judgeDisconnect judgeDenial
+  unfolding answerTo judgeRequest judgeAttach judgeBind judgeListening judgeConnect judgeAccept judgeDisconnect judgeDenial judgeDatagram
   judged-fairly x request.Info s = serves informs
   judged-fairly x request.Token s = serves tellsToken
   judged-fairly x (request.Attach p) s = _ ⟹ (λ y. unknownPpa (not-true _ y)) ∣ (λ k. serves (attaches (not-false _ k)))
@@ -303,3 +323,8 @@ module _ (t : Table) (i : ℕ) (m : List ℕ) where
       (λ e. _ ⟹ (λ y. notZero e (not-true _ y)) ∣ (λ z. serves (disconnects e (eqb-true _ _ (not-false _ z)))))
   judged-fairly x request.Reset s = serves resets
   judged-fairly x request.ResetRes s = serves answersReset
+  judged-fairly x (request.Unitdata u) s =
+      _ ⟹ (λ y. otherForm (not-true _ y)) ∣ (λ l. _ ⟹ (λ y. sentEarly (ltb-true _ _ y)) ∣ (λ f. _ ⟹ (λ y. sentLate (ltb-true _ _ y)) ∣ (λ g.
+      _ ⟹ (λ y. notBindable (not-true _ y)) ∣ (λ b.
+      let e : u .offset + u .length ≤ u .size = ltb-false _ _ g in
+      serves (sendsData (record { form = eqb-true _ _ (not-false _ l); behind = ltb-false _ _ f; inside = omega (arith, s .measured); bindable = not-false _ b }))))))

@@ -5,9 +5,12 @@ pub mod SoundClauses
 pub mod RefusalOrder
 pub mod Records
 pub mod Letters
+pub mod Pairs
 pub mod Sizes
 pub mod RecordsOut
 pub mod Tails
+pub mod Frames
+pub mod Room
 pub mod Effects
 pub mod StateNumbers
 pub mod Saps

@@ -13,6 +13,9 @@ use Rattle.ledger.proofs.Lists.{joined-append}
 pub one-record : (r : Record) → allBytes (r ∷ []) ≡ bytesOf r
 one-record r = append-nil (bytesOf r)
 
+pub two-records : (a b : Record) → bytesOf a ++ bytesOf b ≡ allBytes (a ∷ b ∷ [])
+two-records a b = ap (λ (l : List ℕ). bytesOf a ++ l) (sym (one-record b))
+
 pub bytes-in-order : (a f u : List Record) → allBytes (inOrder a f u) ≡ allBytes a ++ allBytes f ++ allBytes u
 unfolding inOrder
 bytes-in-order a f u = joined-append bytesOf (a ++ f) u ∙ ap (λ (l : List ℕ). l ++ allBytes u) (joined-append bytesOf a f)

@@ -3,18 +3,20 @@
 use Prim.Native.Nat.{ℕ, _+_, _*_, _≤_}
 use native.Mathlib.Omega.{arith}
 use mathlib.Core.Path.{_≡_, refl}
-use mathlib.Core.List.{List}
+use mathlib.Core.Bool.{Bool, false}
+use mathlib.Core.List.{List, _++_}
 use lib.ListN.{length}
 use Rattle.ledger.proofs.Tallies.{picked, chosen}
-use Rattle.octets.specs.Blocks.{blockSize}
+use Rattle.octets.specs.Blocks.{blockSize, flat}
 use Rattle.octets.proofs.Blocks.{content-length, pad-length}
 use Rattle.paper.specs.Base.{isAmong, toldStates}
 use Rattle.paper.specs.RecordsIn.{messageSize}
-use Rattle.paper.specs.RecordsOut.{startSize, sizeOut, up, bytesOf}
-use Rattle.paper.specs.Replies.{infoOf, fieldsOf, contentOf, replySize, addressBytes}
+use Rattle.paper.specs.RecordsOut.{startSize, sizeOut, up, unitdata, messageBytes, bytesOf}
+use Rattle.paper.specs.Replies.{infoOf, fieldsOf, unitdataFields, contentOf, goesAsC, replySize, addressBytes}
+use Rattle.paper.specs.declared.Form.{Form}
 use Rattle.paper.specs.declared.Stream.{Stream}
 use Rattle.paper.specs.declared.Reply.{Reply}
-use Rattle.paper.specs.declared.Reply.the-variants.{InfoAck, BindAck, ErrorAck, OkAck, ConnectInd, ConnectCon, TokenAck, DisconnectInd, ResetInd, ResetCon}
+use Rattle.paper.specs.declared.Reply.the-variants.{InfoAck, BindAck, ErrorAck, OkAck, ConnectInd, ConnectCon, TokenAck, DisconnectInd, ResetInd, ResetCon, UderrorInd}
 
 -- unbound and bound, INFO_ACK has its 18 fields
 info-length : (s : Stream) → length (infoOf s) ≡ 18
@@ -33,6 +35,7 @@ fields-few (TokenAck k) = omega arith
 fields-few (DisconnectInd reason n) = omega arith
 fields-few (ResetInd reason) = omega arith
 fields-few ResetCon = omega arith
+fields-few (UderrorInd error) = omega arith
 
 -- the fields, and the addresses that the size counts
 fields-size : (r : Reply) → length (fieldsOf r) * 4 + addressBytes r ≡ replySize r
@@ -46,6 +49,7 @@ fields-size (TokenAck k) = refl
 fields-size (DisconnectInd reason n) = refl
 fields-size (ResetInd reason) = refl
 fields-size ResetCon = refl
+fields-size (UderrorInd error) = refl
 
 -- L is the size and the bytes beyond it: what stands behind the fields, less the addresses that the size counts
 pub reply-size : (r : Reply) (tail : List ℕ) → length (contentOf r tail) + addressBytes r ≡ replySize r + length tail
@@ -57,12 +61,21 @@ pub size-within : (k : ℕ) → (startSize ≤ sizeOut k) × (sizeOut k ≤ mess
 unfolding sizeOut
 size-within k =
     chosen fits _ _ _ (λ e. omega arith)
-    (λ e. chosen fits _ _ _ (λ e. omega arith) (λ e. chosen fits _ _ _ (λ e. omega arith) (λ e. chosen fits _ _ _ (λ e. omega arith) (λ e. omega arith))))
+    (λ e. chosen fits _ _ _ (λ e. omega arith) (λ e. chosen fits _ _ _ (λ e. omega arith) (λ e. chosen fits _ _ _ (λ e. omega arith)
+    (λ e. chosen fits _ _ _ (λ e. omega arith) (λ e. chosen fits _ _ _ (λ e. omega arith) (λ e. omega arith))))))
   where
     fits : ℕ → Type 0
     fits n = (startSize ≤ n) × (n ≤ messageSize)
 
--- a message up whose fields and addresses fit the block has its size
+-- a message whose fields and addresses fit the block has its size: a reply,
+message-size : (asC : Bool) (i : ℕ) (fields tail : List ℕ) → length fields * 4 + length tail ≤ blockSize → length (messageBytes asC i (flat fields ++ tail)) ≡ messageSize
+message-size asC i fields tail h = omega (arith, pad-length blockSize (flat fields ++ tail) (omega (arith, content-length fields tail)))
+
 pub up-size : (i : ℕ) (r : Reply) (tail : List ℕ) → length (fieldsOf r) * 4 + length tail ≤ blockSize → length (bytesOf (up i r tail)) ≡ messageSize
 unfolding contentOf
-up-size i r tail h = omega (arith, pad-length blockSize (contentOf r tail) (omega (arith, content-length (fieldsOf r) tail)))
+up-size i r tail h = message-size (goesAsC r) i (fieldsOf r) tail h
+
+-- and a UNITDATA_IND
+pub unitdata-size : (i : ℕ) (form : Form) (addresses : List ℕ) → length (unitdataFields form) * 4 + length addresses ≤ blockSize
+    → length (bytesOf (unitdata i form addresses)) ≡ messageSize
+unitdata-size i form addresses h = message-size false i (unitdataFields form) addresses h

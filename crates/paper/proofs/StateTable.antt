@@ -6,8 +6,8 @@ use lib.Dec.{eqb}
 use Rattle.ledger.specs.Choice.{pick, both}
 use Rattle.ledger.specs.Tally.{oneIf, has, sumOf, allOf}
 use Rattle.paper.specs.Base.{everyState}
-use Rattle.paper.specs.StateRows.{infoReq, bindReq, unbindReq, attachReq, detachReq, connectReq, connectRes, tokenReq, disconnectReq, resetReq, resetRes, callArrives, peerAccepted}
-use Rattle.paper.specs.StateRows.{peerGone, callWithdrawn, peerReset, resetConfirmed, Seat, seat, seats, leads, loses, stays, stateRows, isRow}
+use Rattle.paper.specs.StateRows.{infoReq, bindReq, unbindReq, attachReq, detachReq, connectReq, connectRes, tokenReq, disconnectReq, resetReq, resetRes, unitdataReq, callArrives, peerAccepted}
+use Rattle.paper.specs.StateRows.{peerGone, callWithdrawn, peerReset, resetConfirmed, frameArrives, Seat, seat, seats, leads, loses, stays, stateRows, isRow}
 use Rattle.paper.specs.declared.StateRow.{StateRow}
 
 -- No two rows are for one state, mode and cause: the order of the list is not asked.
@@ -38,7 +38,7 @@ byState =
     ∷ (inEachState (seat 3 0) ++ (leads detachReq 0 3 0 ∷ leads bindReq 0 3 6 ∷ []))
     -- 6, in mode 1 and in mode 2
     ∷ (inEachState (seat 6 1) ++ (leads unbindReq 1 6 3 ∷ leads connectReq 1 6 8 ∷ leads callArrives 1 6 9 ∷ []))
-    ∷ (inEachState (seat 6 2) ++ (leads unbindReq 2 6 3 ∷ []))
+    ∷ (inEachState (seat 6 2) ++ (leads unbindReq 2 6 3 ∷ leads unitdataReq 2 6 6 ∷ leads frameArrives 2 6 6 ∷ []))
     -- 8: a connection is asked for
     ∷ (inEachState (seat 8 1) ++ (leads disconnectReq 1 8 6 ∷ leads peerAccepted 1 8 11 ∷ leads peerGone 1 8 6 ∷ []))
     -- 9: indications are open

@@ -3,11 +3,13 @@ use Prim.Native.Nat.{ℕ, suc, _+_}
 use mathlib.Core.Bool.{Bool, true, false, not}
 use mathlib.Core.List.{List, [], _∷_, _++_, map}
 use lib.ListN.{getD, set, replicate}
-use lib.Dec.{eqb}
+use lib.Dec.{eqb, ltb}
 use Rattle.ledger.specs.Choice.{pick, _⇒_∣_}
 use Rattle.ledger.specs.Tally.{has, firstOf}
 use Rattle.paper.specs.declared.State.{State}
 use Rattle.paper.specs.declared.State.the-variants.{Unattached, Unbound, Idle, OutconPending, InconPending, DataXfer, UserResetPending, ProvResetPending}
+use Rattle.paper.specs.declared.Form.{Form}
+use Rattle.paper.specs.declared.Form.the-variants.{WithSap, WithType}
 use Rattle.paper.specs.declared.Stream.{Stream}
 use Rattle.paper.specs.declared.PpaNumber.{PpaNumber}
 use Rattle.paper.specs.declared.Ppa.{Ppa}
@@ -111,9 +113,25 @@ mostPpas = 8
 abbrev pub macSize : ℕ
 macSize = 6
 
--- an address as records have it, called or calling: the MAC, then 1 byte of SAP
+-- an address as c, I and A have it: the MAC, then 1 byte of SAP
 abbrev pub addressSize : ℕ
 addressSize = macSize + 1
+
+-- with 2 bytes of Ethernet type it is the longest
+abbrev pub mostAddress : ℕ
+mostAddress = macSize + 2
+
+-- So an address has one of two forms: with a SAP or with a type. The form has a length, and a length of 7 or 8 a form.
+abbrev pub lengthOf : Form → ℕ
+lengthOf WithSap = addressSize
+lengthOf WithType = mostAddress
+
+unfoldable pub formIn : ℕ → Form
+formIn n = pick (eqb n mostAddress) WithType WithSap
+
+-- the form of an address that ends in this number
+unfoldable pub formOf : ℕ → Form
+formOf sap = pick (ltb sap 256) WithSap WithType
 
 -- A table remembers whether a stream was ever opened, and has one counter for correlation numbers.
 pub record Table : Type 0 where

@@ -24,7 +24,8 @@ pub data Decision : Type 0 where
   refuses : ℕ → Decision
   does : Effect → Decision
 
--- A message of this code, by its state row and the verdict on it: an ERROR_ACK, or what the row does where it is served.
+-- A message of this code, by its state row and the verdict on it: the answer to the rule that fails it, or what the row does
+-- where it is served.
 -- (With no row nothing is: `verdictBy`.)
 unfoldable pub effectBy : Found → Token → ℕ → Stream → Verdict → Effect
 effectBy f k code s (Fails r) = errorEffect code r

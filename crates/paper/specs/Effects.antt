@@ -7,12 +7,13 @@ use lib.Dec.{eqb}
 use Rattle.ledger.specs.Choice.{pick}
 use Rattle.ledger.specs.Tally.{without}
 use Rattle.octets.specs.Runs.{part}
-use Rattle.paper.specs.Base.{addressSize, stateOf, isIn, isAmong, joinedStates, attachedIn, settled, Slot, Table, stream, waiting, withNumbers, withStream, withCounter}
-use Rattle.paper.specs.RecordsIn.{addressIn, calledIn, callingIn}
+use Rattle.octets.specs.Blocks.{padTo}
+use Rattle.paper.specs.Base.{addressSize, mostAddress, lengthOf, stateOf, isIn, isAmong, joinedStates, attachedIn, settled, Slot, Table, stream, waiting, withNumbers, withStream, withCounter}
+use Rattle.paper.specs.RecordsIn.{blockIn, addressIn, calledIn, callingIn, dataIn}
 use Rattle.paper.specs.Replies.{addressOf, infoTail}
-use Rattle.paper.specs.RecordsOut.{Record, order, up, flushIf, inOrder}
+use Rattle.paper.specs.RecordsOut.{Record, order, up, datum, flushIf, inOrder}
 use Rattle.paper.specs.Correlations.{onePast}
-use Rattle.paper.specs.ErrorCodes.{errorOf}
+use Rattle.paper.specs.ErrorCodes.{complaintOf, replyBy}
 use Rattle.paper.specs.declared.State.{State}
 use Rattle.paper.specs.declared.State.the-variants.{DataXfer}
 use Rattle.paper.specs.declared.PpaNumber.{PpaNumber}
@@ -56,12 +57,12 @@ unfoldable pub carried : Table → ℕ → Bool → Table
 carried t c false = t
 carried t c true = withStream t c (settled DataXfer (stream t c))
 
--- An effect of message m, done. (An effect holds no bytes: what a table is to keep of a message comes from m. The base keeps
--- nothing.)
+-- An effect of record r, done. (An effect holds no bytes: what a table is to keep of a message would come from r. Nothing
+-- is kept.)
 unfoldable pub enacted : Table → ℕ → ℕ → List ℕ → Effect → Table
-enacted t i c m e = carried (changed t i (e .change)) c (e .carries)
+enacted t i c r e = carried (changed t i (e .change)) c (e .carries)
 
--- ---- its records, where m is the message, or the record of the event
+-- ---- its records, where r is the record of the message, with its M, or of the event
 
 -- the stream that an order names
 abbrev pub namedBy : ℕ → ℕ → LineOrder → ℕ
@@ -70,40 +71,52 @@ namedBy i c (lineOrder.Accept n) = c
 namedBy i c (lineOrder.Disconnect n reason) = i
 namedBy i c lineOrder.Reset = i
 namedBy i c lineOrder.ResetAnswer = i
+namedBy i c (lineOrder.Unitdata at form) = i
 
--- What stands behind the fields of an order: of the message, or of what the stream's own slot keeps. (The base has c alone
--- with any: the address, handed on as that part of the message.)
+-- What stands behind the fields of an order: of the record, or of what the stream's own slot keeps. (c and u alone have any:
+-- the address, handed on as that part of the message; of u zero past its length.)
 abbrev pub behindOrder : Slot → List ℕ → LineOrder → List ℕ
-behindOrder own m (lineOrder.Connect at) = part m at addressSize
-behindOrder own m (lineOrder.Accept n) = []
-behindOrder own m (lineOrder.Disconnect n reason) = []
-behindOrder own m lineOrder.Reset = []
-behindOrder own m lineOrder.ResetAnswer = []
+behindOrder own r (lineOrder.Connect at) = part (blockIn r) at addressSize
+behindOrder own r (lineOrder.Accept n) = []
+behindOrder own r (lineOrder.Disconnect n reason) = []
+behindOrder own r lineOrder.Reset = []
+behindOrder own r lineOrder.ResetAnswer = []
+behindOrder own r (lineOrder.Unitdata at form) = padTo mostAddress (part (blockIn r) at (lengthOf form))
+
+-- u has its M behind it
+abbrev pub dataBehind : ℕ → List ℕ → LineOrder → List Record
+dataBehind i r (lineOrder.Connect at) = []
+dataBehind i r (lineOrder.Accept n) = []
+dataBehind i r (lineOrder.Disconnect n reason) = []
+dataBehind i r lineOrder.Reset = []
+dataBehind i r lineOrder.ResetAnswer = []
+dataBehind i r (lineOrder.Unitdata at form) = datum i (dataIn r) ∷ []
 
 unfoldable pub ordersIn : ℕ → ℕ → Slot → List ℕ → Telling → List Record
-ordersIn i c own m Untold = []
-ordersIn i c own m (Tells o) = order (namedBy i c o) o (behindOrder own m o) ∷ []
+ordersIn i c own r Untold = []
+ordersIn i c own r (Tells o) = order (namedBy i c o) o (behindOrder own r o) ∷ dataBehind i r o
 
 -- what stands behind the fields of a message up
 unfoldable pub behindReply : List ℕ → List ℕ → Reply → List ℕ
-behindReply mac m (reply.InfoAck s) = infoTail mac s
-behindReply mac m (reply.BindAck sap granted) = addressOf mac sap
-behindReply mac m (reply.ErrorAck code error) = []
-behindReply mac m (reply.OkAck code) = []
-behindReply mac m (reply.ConnectInd n) = calledIn m ++ callingIn m
-behindReply mac m reply.ConnectCon = addressIn m
-behindReply mac m (reply.TokenAck k) = []
-behindReply mac m (reply.DisconnectInd reason n) = []
-behindReply mac m (reply.ResetInd reason) = []
-behindReply mac m reply.ResetCon = []
+behindReply mac r (reply.InfoAck s) = infoTail mac s
+behindReply mac r (reply.BindAck sap granted) = addressOf mac sap
+behindReply mac r (reply.ErrorAck code error) = []
+behindReply mac r (reply.OkAck code) = []
+behindReply mac r (reply.ConnectInd n) = calledIn r ++ callingIn r
+behindReply mac r reply.ConnectCon = addressIn r
+behindReply mac r (reply.TokenAck k) = []
+behindReply mac r (reply.DisconnectInd reason n) = []
+behindReply mac r (reply.ResetInd reason) = []
+behindReply mac r reply.ResetCon = []
+behindReply mac r (reply.UderrorInd error) = []
 
 unfoldable pub upsIn : ℕ → List ℕ → List ℕ → Saying → List Record
-upsIn i mac m Unsaid = []
-upsIn i mac m (Says r) = up i r (behindReply mac m r) ∷ []
+upsIn i mac r Unsaid = []
+upsIn i mac r (Says reply) = up i reply (behindReply mac r reply) ∷ []
 
 -- the records of an effect, in their order
 unfoldable pub told : ℕ → ℕ → Slot → List ℕ → List ℕ → Effect → List Record
-told i c own mac m e = inOrder (ordersIn i c own m (e .order)) (flushIf (e .flush) i) (upsIn i mac m (e .up))
+told i c own mac r e = inOrder (ordersIn i c own r (e .order)) (flushIf (e .flush) i) (upsIn i mac r (e .up))
 
 -- ---- what becomes of a stream by row x
 
@@ -135,9 +148,9 @@ boundIn q p mode sap granted = record { state = q; mode = mode; sap = sap; ppa =
 abbrev pub acting : Change → Telling → Bool → Saying → Effect
 acting c o f u = record { change = c; carries = false; order = o; flush = f; up = u }
 
--- An ERROR_ACK changes nothing.
+-- A message that breaks a rule changes nothing.
 abbrev pub errorEffect : ℕ → Rule → Effect
-errorEffect code r = acting Stays Untold false (Says (reply.ErrorAck code (errorOf r)))
+errorEffect code r = acting Stays Untold false (Says (replyBy code (complaintOf r)))
 
 -- A request with a reply gets INFO_ACK, BIND_ACK, TOKEN_ACK or else OK_ACK, which has the request's code: the row's cause.
 abbrev pub ok : StateRow → Saying
@@ -171,6 +184,8 @@ effectOf x k s (service.Disconnect reason) =
 -- r, no reply; s
 effectOf x k s service.Reset = acting (onward x s) (Tells lineOrder.Reset) false Unsaid
 effectOf x k s service.ResetRes = acting (onward x s) (Tells lineOrder.ResetAnswer) false (ok x)
+-- u and its M, no reply
+effectOf x k s (service.Unitdata at form) = acting (unchanged x s) (Tells (lineOrder.Unitdata at form)) false Unsaid
 
 -- What the line brings to a stream that stands as s, by row x.
 unfoldable pub eventEffect : StateRow → Stream → Event → Effect

@@ -9,6 +9,7 @@ use Rattle.ledger.specs.Tally.{has}
 use Rattle.paper.specs.Base.{addressSize, isIn, Table}
 use Rattle.paper.specs.Saps.{isSap, isType, grantOf}
 use Rattle.paper.specs.Messages.{codeIn}
+use Rattle.paper.specs.Datagrams.{judgeDatagram}
 use Rattle.paper.specs.Sight.{sends, Sight, sightOf}
 use Rattle.paper.specs.declared.Correlation.{Correlation}
 use Rattle.paper.specs.declared.PpaNumber.{PpaNumber}
@@ -19,6 +20,7 @@ use Rattle.paper.specs.declared.ConnectResponse.{ConnectResponse}
 use Rattle.paper.specs.declared.DisconnectRequest.{DisconnectRequest}
 use Rattle.paper.specs.declared.Request.{Request}
 use Rattle.paper.specs.declared.Request.the-variants as request
+use Rattle.paper.specs.declared.Rule.{Rule}
 use Rattle.paper.specs.declared.Rule.the-variants as rule
 use Rattle.paper.specs.declared.Carrier.{Carrier}
 use Rattle.paper.specs.declared.Carrier.the-variants.{Itself, Other, None}
@@ -32,6 +34,7 @@ use Rattle.paper.specs.declared.Verdict.{Verdict}
 use Rattle.paper.specs.declared.Verdict.the-variants.{Serves, Fails}
 
 -- 1. Another code than a served request's, or L under the size: `askedBy` (Messages). 2. No state row: `verdictBy`, below.
+-- A datagram's address: `judgeDatagram` (Datagrams).
 
 -- 3. ATTACH: unknown PPA, BADPPA.
 unfoldable pub judgeAttach : PpaNumber → Bool → Verdict
@@ -101,7 +104,7 @@ judgeDisconnect s d numberOpen =
     ∣ not (eqb (d .correlation .0) 0) ⇒ Fails rule.NumberNotZero
     ∣ Serves (service.Disconnect (d .reason))
 
--- Steps 3 to 7, by the request: what each reads of its sight stands beside it.
+-- Steps 3 to 7, and a datagram's (document 02), by the request: what each reads of its sight stands beside it.
 unfoldable pub judgeRequest : Sight → Request → Verdict
 judgeRequest s request.Info = Serves service.Inform
 judgeRequest s request.Token = Serves service.TellToken
@@ -115,12 +118,28 @@ judgeRequest s (request.ConnectRes a) =
 judgeRequest s (request.Disconnect d) = judgeDisconnect (s .own .stream) d (has (d .correlation .0) (s .own .waiting))
 judgeRequest s request.Reset = Serves service.Reset
 judgeRequest s request.ResetRes = Serves service.ResetRes
+judgeRequest s (request.Unitdata u) = judgeDatagram (s .own .stream) u
+
+-- 2. No state row. (Of a datagram it is a rule of its own.)
+unfoldable pub withoutRow : Request → Rule
+withoutRow request.Info = rule.NoRow
+withoutRow request.Token = rule.NoRow
+withoutRow (request.Attach p) = rule.NoRow
+withoutRow request.Detach = rule.NoRow
+withoutRow (request.Bind b) = rule.NoRow
+withoutRow request.Unbind = rule.NoRow
+withoutRow (request.Connect c) = rule.NoRow
+withoutRow (request.ConnectRes a) = rule.NoRow
+withoutRow (request.Disconnect d) = rule.NoRow
+withoutRow request.Reset = rule.NoRow
+withoutRow request.ResetRes = rule.NoRow
+withoutRow (request.Unitdata u) = rule.DatagramNoRow
 
 -- The order of errors as a whole, on a message: the first rule that applies, or what serves it. (The last argument is the
 -- sight's row.)
 abbrev pub verdictBy : Sight → Asked → Found → Verdict
 verdictBy s (Wrong r) f = Fails r
-verdictBy s (For q) Missing = Fails rule.NoRow
+verdictBy s (For q) Missing = Fails (withoutRow q)
 verdictBy s (For q) (At x) = judgeRequest s q
 
 abbrev pub verdict : Sight → Asked → Verdict

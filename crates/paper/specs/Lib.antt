@@ -11,9 +11,11 @@ pub mod ErrorCodes
 pub mod Saps
 pub mod StateRows
 pub mod Sight
+pub mod Datagrams
 pub mod ErrorOrder
 pub mod Effects
 pub mod Decide
 pub mod Correlations
+pub mod Room
 pub mod Step
 pub mod Examples

@@ -6,7 +6,8 @@ use lib.Dec.{eqb, ltb}
 use Rattle.ledger.specs.Choice.{_⇒_∣_}
 use Rattle.ledger.specs.Tally.{has}
 use Rattle.octets.specs.Numbers.{be16At, be32At}
-use Rattle.paper.specs.Base.{macSize}
+use Rattle.paper.specs.Base.{macSize, formIn}
+use Rattle.paper.specs.RecordsIn.{sapAt}
 use Rattle.paper.specs.declared.Primitive.{Primitive}
 use Rattle.paper.specs.declared.Primitive.the-variants as primitive
 use Rattle.paper.specs.declared.Request.{Request}
@@ -18,9 +19,10 @@ use Rattle.paper.specs.declared.Asked.the-variants.{For, Wrong}
 abbrev pub codeIn : List ℕ → ℕ
 codeIn m = be32At m 0
 
--- The codes that step 1 of the order of errors answers with NOTSUPPORTED.
+-- The codes that step 1 of the order of errors answers with NOTSUPPORTED. (Document 02: a code once served leaves the list,
+-- as 0x07 did.)
 abbrev pub notSupportedCodes : List ℕ
-notSupportedCodes = 0x07 ∷ 0x0a ∷ 0x15 ∷ 0x1b ∷ 0x1d ∷ 0x1e ∷ 0x1f ∷ 0x20 ∷ []
+notSupportedCodes = 0x0a ∷ 0x15 ∷ 0x1b ∷ 0x1d ∷ 0x1e ∷ 0x1f ∷ 0x20 ∷ []
 
 unfoldable pub otherCode : ℕ → Primitive
 otherCode code = has code notSupportedCodes ⇒ primitive.NotSupported ∣ primitive.NotServed
@@ -38,6 +40,7 @@ primitiveOf code =
     ∣ eqb code 0x13 ⇒ primitive.Disconnect
     ∣ eqb code 0x17 ⇒ primitive.Reset
     ∣ eqb code 0x19 ⇒ primitive.ResetRes
+    ∣ eqb code 0x07 ⇒ primitive.Unitdata
     ∣ otherCode code
 
 -- L under the size is a rule of step 1 that fails.
@@ -62,6 +65,10 @@ readAs primitive.Token m = sized 4 m request.Token
 readAs primitive.Disconnect m = sized 12 m (request.Disconnect (record { reason = be32At m 4; correlation = record { 0 = be32At m 8 } }))
 readAs primitive.Reset m = sized 4 m request.Reset
 readAs primitive.ResetRes m = sized 4 m request.ResetRes
+-- document 02: address length, address offset, priority (two fields, not read)
+readAs primitive.Unitdata m =
+    sized 20 m
+    (request.Unitdata (record { length = be32At m 4; offset = be32At m 8; size = length m; sap = sapAt m (formIn (be32At m 4)) (be32At m 8 + macSize) }))
 readAs primitive.NotSupported m = Wrong rule.NotSupported
 readAs primitive.NotServed m = Wrong rule.NotServed
 

@@ -4,7 +4,7 @@ use mathlib.Core.List.{List, []}
 use Rattle.paper.specs.Base.{Table, tokenOf}
 use Rattle.paper.specs.RecordsOut.{Record}
 
--- room under 128 bytes
+-- room under 128 bytes; of a frame under 4,096
 abbrev pub littleRoom : ℕ
 littleRoom = 1
 
@@ -20,7 +20,7 @@ allOpen = 3
 abbrev pub noCode : ℕ
 noCode = 4
 
--- L over 96
+-- L over 96; data over 64
 abbrev pub overLong : ℕ
 overLong = 5
 
@@ -28,7 +28,7 @@ overLong = 5
 abbrev pub unexpected : ℕ
 unexpected = 6
 
--- I whose PPA is unknown, whose called MAC isn't that PPA's, or for whose PPA and SAP nobody listens
+-- I whose PPA is unknown, whose called MAC isn't that PPA's, or for whose PPA and SAP nobody listens; a frame on an unknown PPA
 abbrev pub nobodyThere : ℕ
 nobodyThere = 7
 
@@ -40,7 +40,8 @@ busy = 8
 abbrev pub noNewPpa : ℕ
 noNewPpa = 9
 
--- no bytes, unknown kind or cut body, or nonzero padding with L at most 96
+-- no bytes, unknown kind or cut body, or nonzero padding with L at most 96; 0x07 without its M, an M by itself, an address
+-- length not 7 or 8, or nonzero padding of a datagram or frame
 abbrev pub notARecord : ℕ
 notARecord = 10
 

@@ -6,10 +6,11 @@ use lib.ListN.{replicate}
 use lib.Dec.{ltb}
 use Rattle.ledger.specs.Choice.{pick}
 use Rattle.octets.specs.Blocks.{flat}
-use Rattle.paper.specs.Base.{macSize, addressSize, number, isAmong, toldStates}
+use Rattle.paper.specs.Base.{macSize, addressSize, lengthOf, number, isAmong, toldStates}
+use Rattle.paper.specs.declared.Form.{Form}
 use Rattle.paper.specs.declared.Stream.{Stream}
 use Rattle.paper.specs.declared.Reply.{Reply}
-use Rattle.paper.specs.declared.Reply.the-variants.{InfoAck, BindAck, ErrorAck, OkAck, ConnectInd, ConnectCon, TokenAck, DisconnectInd, ResetInd, ResetCon}
+use Rattle.paper.specs.declared.Reply.the-variants.{InfoAck, BindAck, ErrorAck, OkAck, ConnectInd, ConnectCon, TokenAck, DisconnectInd, ResetInd, ResetCon, UderrorInd}
 
 -- The originator is always 0x0701.
 abbrev pub originator : ℕ
@@ -28,10 +29,6 @@ sapLength sap = pick (ltb sap 256) 1 2
 abbrev addressLength : ℕ → ℕ
 addressLength sap = macSize + sapLength sap
 
--- with a type it is the longest
-abbrev pub mostAddress : ℕ
-mostAddress = macSize + 2
-
 -- INFO_ACK in order, with the five fields that differ from stream to stream
 abbrev pub infoFields : ℕ → ℕ → ℕ → ℕ → ℕ → List ℕ
 infoFields state address sap mode offset =
@@ -49,8 +46,8 @@ infoOf s =
 unfoldable pub infoTail : List ℕ → Stream → List ℕ
 infoTail mac s = pick (isAmong toldStates s) (addressOf mac (s .sap)) [] ++ replicate macSize 0xff
 
--- At most so much stands behind the fields of a message up: called and calling, or as much of INFO_ACK's, an address with
--- a type and the six bytes.
+-- At most so much stands behind the fields of a reply: called and calling, or as much of INFO_ACK's, an address with a type
+-- and the six bytes.
 abbrev pub mostTail : ℕ
 mostTail = addressSize + addressSize
 
@@ -66,6 +63,13 @@ fieldsOf (TokenAck k) = 0x12 ∷ k .0 ∷ []
 fieldsOf (DisconnectInd reason n) = 0x14 ∷ originator ∷ reason ∷ n .0 ∷ []
 fieldsOf (ResetInd reason) = 0x18 ∷ originator ∷ reason ∷ []
 fieldsOf ResetCon = 0x1a ∷ []
+-- document 02: no address, so length and offset are 0; the UNIX error 0, then the error
+fieldsOf (UderrorInd error) = 0x09 ∷ 0 ∷ 0 ∷ 0 ∷ error ∷ []
+
+-- UNITDATA_IND, with addresses of a form (document 02): called length, offset 24, calling length, the offset right behind
+-- called, group flag 0; then called and calling
+abbrev pub unitdataFields : Form → List ℕ
+unitdataFields form = 0x08 ∷ lengthOf form ∷ 24 ∷ lengthOf form ∷ (24 + lengthOf form) ∷ 0 ∷ []
 
 -- the L bytes of a message up
 unfoldable pub contentOf : Reply → List ℕ → List ℕ
@@ -84,6 +88,7 @@ replySize (TokenAck k) = 8
 replySize (DisconnectInd reason n) = 16
 replySize (ResetInd reason) = 12
 replySize ResetCon = 4
+replySize (UderrorInd error) = 20
 
 -- how many bytes of address a size counts: called and calling; the address
 abbrev pub addressBytes : Reply → ℕ
@@ -97,6 +102,7 @@ addressBytes (TokenAck k) = 0
 addressBytes (DisconnectInd reason n) = 0
 addressBytes (ResetInd reason) = 0
 addressBytes ResetCon = 0
+addressBytes (UderrorInd error) = 0
 
 -- Codes 0x03 to 0x06 and 0x12 go up as C, the other replies as P.
 abbrev pub goesAsC : Reply → Bool
@@ -110,3 +116,4 @@ goesAsC (TokenAck k) = true
 goesAsC (DisconnectInd reason n) = false
 goesAsC (ResetInd reason) = false
 goesAsC ResetCon = false
+goesAsC (UderrorInd error) = false

@@ -20,6 +20,9 @@ bindReq = 0x01
 abbrev pub unbindReq : ℕ
 unbindReq = 0x02
 
+abbrev pub unitdataReq : ℕ
+unitdataReq = 0x07
+
 abbrev pub attachReq : ℕ
 attachReq = 0x0b
 
@@ -61,6 +64,9 @@ peerReset = 82  -- R
 
 abbrev pub resetConfirmed : ℕ
 resetConfirmed = 83  -- S
+
+abbrev pub frameArrives : ℕ
+frameArrives = 102  -- f
 
 -- ---- how an open stream can stand: a state, and a mode in it
 
@@ -127,6 +133,9 @@ stateRows =
     -- R 11 to 13, S 12 to 11
     ∷ leads peerReset 1 11 13
     ∷ leads resetConfirmed 1 12 11
+    -- document 02: on a stream bound in mode 2 a datagram goes and a frame comes, unchanged
+    ∷ stays unitdataReq (seat 6 2)
+    ∷ stays frameArrives (seat 6 2)
     ∷ [])
 
 -- ---- a stream's row for what comes

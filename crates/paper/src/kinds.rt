@@ -1,11 +1,14 @@
 // Records out as they stand in the room, by the letter of their kind.
 ghost use mathlib.Core.Path.{_≡_};
-ghost use Rattle.paper.specs.RecordsOut.{isMessage, sizeOut};
+ghost use Rattle.paper.specs.RecordsIn.{isMessage};
+ghost use Rattle.paper.specs.RecordsOut.{sizeOut};
 use crate::ACCEPT_SIZE;
 use crate::CONNECT_SIZE;
+use crate::DATA_SIZE;
 use crate::DISCONNECT_SIZE;
 use crate::MESSAGE_SIZE;
 use crate::START_SIZE;
+use crate::UNITDATA_SIZE;
 
 pub fn is_message(kind: u8) -> bool
     ensures { λ q. ⌜ q ≡ isMessage kind ⌝ }
@@ -28,6 +31,12 @@ pub fn size_out(kind: u8) -> usize
     }
     if kind == b'd' {
         return DISCONNECT_SIZE;
+    }
+    if kind == b'u' {
+        return UNITDATA_SIZE;
+    }
+    if kind == b'M' {
+        return DATA_SIZE;
     }
     START_SIZE
 }

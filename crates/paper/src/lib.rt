@@ -1,9 +1,14 @@
 // The rule paper's quantities, states, requests, rules, state rows, effects and records, as values. What each means stands in specs/.
+mod addresses;
 mod kinds;
 mod states;
 
 ghost use mathlib.Core.Path.{_≡_};
 ghost use Rattle.paper.specs.Base.{numberOf, stateOf};
+pub use addresses::form_in;
+pub use addresses::form_of;
+pub use addresses::length_of;
+pub use addresses::sap_at;
 pub use kinds::is_message;
 pub use kinds::size_out;
 pub use states::holds_binding;
@@ -13,7 +18,7 @@ pub use states::is_joined;
 pub use states::tells_binding;
 
 // The sizes that the paper names: a table's streams and PPAs, a MAC, the most open indications of a stream and of a table, the
-// room that a call needs.
+// room that a call needs, and a frame's.
 pub const STREAM_TOTAL: usize = 16;
 
 pub const MOST_PPAS: usize = 8;
@@ -26,17 +31,28 @@ pub const MOST_NUMBERS: usize = STREAM_TOTAL * MOST_OPEN;
 
 pub const ROOM_SIZE: usize = 128;
 
-// The sizes of addresses: called or calling, the longest, and what is at most behind the fields of a message up.
+pub const FRAME_ROOM_SIZE: usize = 4096;
+
+// The sizes of addresses: called or calling, the longest, and what is at most behind the fields of a reply.
 pub const ADDRESS_SIZE: usize = MAC_SIZE + 1;
 
 pub const MOST_ADDRESS: usize = MAC_SIZE + 2;
 
 pub const MOST_TAIL: usize = ADDRESS_SIZE + ADDRESS_SIZE;
 
-// The sizes of records: what stands before a message's block, and the whole of it; what starts every record out; c, a, d.
+// The sizes of records: what stands before a message's block, and the whole of it; of its data, and with that; what starts
+// every record out; c, a, d, u.
 pub const HEAD_SIZE: usize = 3;
 
 pub const MESSAGE_SIZE: usize = HEAD_SIZE + octets::BLOCK_SIZE;
+
+pub const MOST_DATA: usize = 64;
+
+pub const DATA_SIZE: usize = HEAD_SIZE + MOST_DATA;
+
+pub const BODY_SIZE: usize = 1 + MOST_DATA;
+
+pub const PAIR_SIZE: usize = MESSAGE_SIZE + DATA_SIZE;
 
 pub const START_SIZE: usize = 2;
 
@@ -45,6 +61,8 @@ pub const CONNECT_SIZE: usize = START_SIZE + ADDRESS_SIZE;
 pub const ACCEPT_SIZE: usize = START_SIZE + 4;
 
 pub const DISCONNECT_SIZE: usize = START_SIZE + 4 + 4;
+
+pub const UNITDATA_SIZE: usize = START_SIZE + 1 + MOST_ADDRESS;
 
 // What the paper calls unlike quantities: no one can stand for another.
 pub struct Token(pub u32);
@@ -123,20 +141,36 @@ pub enum Kind {
     CallWithdrawn,
     PeerReset,
     ResetConfirmed,
+    Data,
+    Frame,
     Unknown,
+}
+
+// The two forms of an address: the MAC with 1 byte of SAP, or with 2 of Ethernet type.
+pub enum Form {
+    WithSap,
+    WithType,
+}
+
+// A frame: its PPA, the form of its addresses, the called SAP or type, the length of its data.
+pub struct Frame {
+    pub ppa: PpaNumber,
+    pub form: Form,
+    pub sap: u16,
+    pub bytes: u8,
 }
 
 // A record in, read. Addresses and blocks stay where they lie in the record.
 pub enum Input {
     // no bytes, unknown kind or cut body: reading ends there
     Unreadable,
-    // nonzero padding with L at most 96: reading goes on
-    Padded,
+    // nonzero padding, 0x07 without its M, an M by itself, an address length not 7 or 8: reading goes on
+    Malformed,
     AddPpa(PpaNumber),
     Open,
     Close(u8),
-    // the stream and L
-    Message(u8, u8),
+    // the stream, L, and the length of the data in its M: 0 where none belongs to it
+    Message(u8, u8, u8),
     // the PPA and the called SAP
     CallArrives(PpaNumber, u8),
     PeerAccepted(u8),
@@ -145,6 +179,7 @@ pub enum Input {
     CallWithdrawn(u8, Correlation, u32),
     PeerReset(u8, u32),
     ResetConfirmed(u8),
+    Frame(Frame),
 }
 
 // The messages of the paper's table that a user sends, by their code.
@@ -160,7 +195,8 @@ pub enum Primitive {
     Disconnect,
     Reset,
     ResetRes,
-    // the eight codes of step 1
+    Unitdata,
+    // the codes of step 1's list
     NotSupported,
     // every other code
     NotServed,
@@ -195,6 +231,14 @@ pub struct DisconnectRequest {
     pub correlation: Correlation,
 }
 
+// `size` is L; `sap` what the address would be to: the byte or the two bytes where its MAC ends.
+pub struct UnitdataRequest {
+    pub length: u32,
+    pub offset: u32,
+    pub size: u8,
+    pub sap: u16,
+}
+
 // A message that is served as a request and is of full size.
 pub enum Request {
     Info,
@@ -208,6 +252,7 @@ pub enum Request {
     Disconnect(DisconnectRequest),
     Reset,
     ResetRes,
+    Unitdata(UnitdataRequest),
 }
 
 // The rules that fail, in the order in which the paper tests them.
@@ -244,6 +289,12 @@ pub enum Rule {
     // step 7
     DenialNotOpen,
     NumberNotZero,
+    // of a datagram: state, then address
+    DatagramNoRow,
+    DatagramLength,
+    DatagramTooEarly,
+    DatagramTooLate,
+    DatagramSapNotAllowed,
 }
 
 // What a message with a code comes to: a request, or a rule of step 1 that fails.
@@ -277,6 +328,8 @@ pub enum Service {
     Disconnect(u32),
     Reset,
     ResetRes,
+    // where the address begins in the message, and its form
+    Unitdata(u8, Form),
 }
 
 // What the order of errors comes to.
@@ -333,6 +386,8 @@ pub enum LineOrder {
     Disconnect(Correlation, u32),
     Reset,
     ResetAnswer,
+    // where the address begins in the message, and its form; its M goes with it
+    Unitdata(u8, Form),
 }
 
 // Messages up.
@@ -351,6 +406,8 @@ pub enum Reply {
     DisconnectInd(u32, Correlation),
     ResetInd(u32),
     ResetCon,
+    // the error
+    UderrorInd(u32),
 }
 
 // What a call tells the line.

@@ -1,5 +1,6 @@
 // What a service or an event does, by value.
 ghost use mathlib.Core.Path.{_≡_};
+ghost use Rattle.paper.specs.ErrorCodes.{complaintOf, replyBy};
 ghost use Rattle.paper.specs.Effects.{next, onward, unchanged, more, less, boundIn, acting, errorEffect, ok, noNumber, accepting, effectOf, eventEffect};
 ghost use Rattle.paper.specs.Decide.{effectBy};
 ghost use Rattle.paper.specs.declared.Found.the-variants as found;
@@ -86,17 +87,27 @@ fn acting(change: Change, order: Telling, flush: bool, up: Saying) -> Effect
     }
 }
 
-// An ERROR_ACK changes nothing.
+// ERROR_ACK; of a datagram that is wrong, UDERROR_IND.
+fn complaint(code: u32, rule: Rule) -> Reply
+    ensures { λ r. ⌜ r ≡ replyBy code (complaintOf rule) ⌝ }
+{
+    let error = paper_rules::error_of(rule);
+    match rule {
+        Rule::DatagramNoRow => Reply::UderrorInd(error),
+        Rule::DatagramLength => Reply::UderrorInd(error),
+        Rule::DatagramTooEarly => Reply::UderrorInd(error),
+        Rule::DatagramTooLate => Reply::UderrorInd(error),
+        Rule::DatagramSapNotAllowed => Reply::UderrorInd(error),
+        _ => Reply::ErrorAck(code, error),
+    }
+}
+
+// A message that breaks a rule changes nothing.
 pub fn error_effect(code: u32, rule: Rule) -> Effect
     ensures { λ e. ⌜ e ≡ errorEffect code rule ⌝ }
 {
-    let error = paper_rules::error_of(rule);
-    acting(
-        Change::Stays,
-        Telling::Untold,
-        false,
-        Saying::Says(Reply::ErrorAck(code, error)),
-    )
+    let up = Saying::Says(complaint(code, rule));
+    acting(Change::Stays, Telling::Untold, false, up)
 }
 
 fn ok(x: StateRow) -> Saying
@@ -175,6 +186,11 @@ fn effect_of(x: StateRow, k: Token, s: Stream, v: Service) -> Effect
             let order = Telling::Tells(LineOrder::ResetAnswer);
             acting(onward(x, s), order, false, ok(x))
         }
+        // u and its M, no reply
+        Service::Unitdata(at, form) => {
+            let order = Telling::Tells(LineOrder::Unitdata(at, form));
+            acting(unchanged(x, s), order, false, Saying::Unsaid)
+        }
     }
 }
 
@@ -217,7 +233,7 @@ pub fn event_effect(x: StateRow, s: Stream, event: Event) -> Effect
     }
 }
 
-// An ERROR_ACK to a message of this code, or what row x does that serves it.
+// The error of a rule that fails, to a message of this code, or what row x does that serves it.
 pub fn effect_by(x: StateRow, k: Token, code: u32, s: Stream, verdict: Verdict) -> Effect
     ensures { λ e. ⌜ e ≡ effectBy (found.At x) k code s verdict ⌝ }
 {

@@ -4,7 +4,7 @@ ghost use mathlib.Core.Path.{_≡_};
 ghost use mathlib.Core.List.{[], _∷_, map};
 ghost use Prim.Native.Nat.{ℕ};
 ghost use Rattle.paper.specs.Base.{number};
-ghost use Rattle.paper.specs.StateRows.{stays, seats, stateRows, foundIn, found};
+ghost use Rattle.paper.specs.StateRows.{stays, seats, stateRows, frameArrives, foundIn, found, isFound};
 ghost use Rattle.paper.specs.Sight.{requestAsks, letterOf};
 ghost use Rattle.paper_rows.specs.Courses.{along};
 use paper::Event;
@@ -31,6 +31,7 @@ fn code_of(q: Request) -> u8
         Request::Disconnect(_) => 0x13,
         Request::Reset => 0x17,
         Request::ResetRes => 0x19,
+        Request::Unitdata(_) => 0x07,
     }
 }
 
@@ -110,6 +111,8 @@ fn request_course(state: u8, mode: u8, q: Request) -> Course
         // RESET_REQ 11 to 12; RESET_RES 13 to 11
         Request::Reset => Course::Leads(1, 11, 12),
         Request::ResetRes => Course::Leads(1, 13, 11),
+        // on a stream bound in mode 2 a datagram goes, unchanged
+        Request::Unitdata(_) => Course::Leads(2, 6, 6),
     }
 }
 
@@ -199,4 +202,12 @@ pub fn event_row(s: Stream, event: Event) -> Found
     let state = s.state;
     let course = event_course(paper::number_of(state), event);
     row_along(s, letter_of(event), course)
+}
+
+// A frame comes to a stream bound in mode 2.
+pub fn takes_frames(s: Stream) -> bool
+    ensures { λ r. ⌜ r ≡ isFound (found stateRows s frameArrives) ⌝ }
+{
+    let state = s.state;
+    paper::number_of(state) == 6 && s.mode == 2
 }

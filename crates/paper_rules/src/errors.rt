@@ -58,5 +58,10 @@ pub fn error_of(rule: Rule) -> u32
         Rule::CarrierConnectionless => ACCESS,
         Rule::DenialNotOpen => BADCORR,
         Rule::NumberNotZero => BADCORR,
+        Rule::DatagramNoRow => OUTSTATE,
+        Rule::DatagramLength => BADADDR,
+        Rule::DatagramTooEarly => BADADDR,
+        Rule::DatagramTooLate => BADADDR,
+        Rule::DatagramSapNotAllowed => BADADDR,
     }
 }

@@ -1,10 +1,10 @@
-// Steps 3 to 7 of the order of errors: the first rule that fails, or what serves.
+// Steps 2 to 7 of the order of errors: the first rule that fails, or what serves.
 ghost use Prim.Native.Nat.{_<_};
 ghost use mathlib.Core.Path.{_≡_};
 ghost use lib.Dec.{eqb, ltb};
 ghost use Rattle.ledger.specs.Choice.{both, either};
 ghost use Rattle.paper.specs.Saps.{isType};
-ghost use Rattle.paper.specs.ErrorOrder.{judgeAttach, judgeListening, judgeBind, judgeConnect, judgeOther, judgeItself, judgeCarrier, judgeAccept, judgeDenial, judgeDisconnect};
+ghost use Rattle.paper.specs.ErrorOrder.{judgeAttach, judgeListening, judgeBind, judgeConnect, judgeOther, judgeItself, judgeCarrier, judgeAccept, judgeDenial, judgeDisconnect, withoutRow};
 ghost use Rattle.paper_rules.specs.Keepable.{Keepable};
 use crate::saps::grant_of;
 use crate::saps::is_sap_or_type;
@@ -18,10 +18,21 @@ use paper::ConnectResponse;
 use paper::Correlation;
 use paper::DisconnectRequest;
 use paper::PpaNumber;
+use paper::Request;
 use paper::Rule;
 use paper::Service;
 use paper::Stream;
 use paper::Verdict;
+
+// 2. No state row. Of a datagram it is a rule of its own.
+pub fn without_row(q: Request) -> Rule
+    ensures { λ r. ⌜ r ≡ withoutRow q ⌝ }
+{
+    match q {
+        Request::Unitdata(_) => Rule::DatagramNoRow,
+        _ => Rule::NoRow,
+    }
+}
 
 // 3. ATTACH: the PPA is known.
 pub fn judge_attach(p: PpaNumber, known: bool) -> Verdict

@@ -6,7 +6,7 @@ use paper::MOST_OPEN;
 use paper::Stream;
 
 // An even number under 256. RFC 1010, to which the manual refers, reserves one of them.
-fn is_sap(n: u32) -> bool
+pub fn is_sap(n: u32) -> bool
     ensures { λ r. ⌜ r ≡ isSap n ⌝ }
 {
     if 256 <= n {

@@ -1,6 +1,6 @@
 -- Demand 1, of the call for C: "If it can't be served it gives the one refusal number that our rule paper names, and the stream
 -- table and all buffers lent to it stay as they stood before the call." It holds of what is not sound, as that is refused, and of
--- what is, as a served call writes 128 bytes at most and so has no refusal in its number.
+-- what is, as a served call writes 4,096 bytes at most and so has no refusal in its number.
 use Prim.Native.Nat.{ℕ, _<_}
 use mathlib.Core.Path.{_≡_, refl, sym, ap, subst, _∙_}
 use mathlib.Core.Bool.{Bool, true, false, false≢true}
@@ -17,7 +17,7 @@ use Rattle.call_outcomes.proofs.Laws.{unsound-gives-sixteen}
 use Rattle.keeping.proofs.Images.{table-sound}
 use borrow.Author.Tests.{ltb-false, not-true}
 use Rattle.promises.proofs.Refused.{refusal-small}
-use Rattle.promises.proofs.Whole.{room-enough}
+use Rattle.promises.proofs.Whole.{written-few}
 
 -- "The one refusal number that our rule paper names": on a sound image the refusal in the number is that of `step`.
 pub refusal-is-the-papers : (img r room : List ℕ) → soundImage img ≡ true → refusalIn (callOf img r room .number) ≡ step (tableOf img) r (length room) .refusal
@@ -25,7 +25,7 @@ unfolding callOf leaving soundImage
 refusal-is-the-papers img r room e =
     chosen P _ _ _ (λ f. absurd (false≢true (sym (not-true _ f) ∙ both-of (tidy img) (sound (tableOf img)) e .0))) (λ f. chosen P _ _ _
     (λ g. omega (arith, refusal-small (tableOf img) r (length room)))
-    (λ g. omega (arith, ltb-false 0 (step (tableOf img) r (length room) .refusal) g, room-enough (tableOf img) (table-sound img e) r (length room))))
+    (λ g. omega (arith, ltb-false 0 (step (tableOf img) r (length room) .refusal) g, written-few (tableOf img) (table-sound img e) r (length room))))
   where
     P : Left → Type 0
     P l = refusalIn (l .number) ≡ step (tableOf img) r (length room) .refusal
@@ -45,5 +45,5 @@ refused-leaves-all img r room = go (soundImage img) refl
 
     go : (b : Bool) → soundImage img ≡ b → Bare (callOf img r room)
     go true e = chosen Bare _ _ _ (λ f h. same notSound (omega arith)) (λ f. chosen Bare _ _ _ (λ g h. same (step (tableOf img) r (length room) .refusal) (refusal-small (tableOf img) r (length room)))
-        (λ g h. absurd (omega (arith, h, room-enough (tableOf img) (table-sound img e) r (length room)))))
+        (λ g h. absurd (omega (arith, h, written-few (tableOf img) (table-sound img e) r (length room)))))
     go false e = subst Bare (sym (unsound-gives-sixteen img r room e)) (λ h. same notSound (omega arith))

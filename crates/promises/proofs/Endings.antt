@@ -15,6 +15,7 @@ use Rattle.paper.specs.Base.{Table, slot, waiting, ppaNumbers}
 use Rattle.paper.specs.Correlations.{nextNumber}
 use Rattle.paper.specs.Effects.{ordersIn, upsIn, told, effectOf, eventEffect}
 use Rattle.paper.specs.Openings.{goodbye, goodbyes}
+use Rattle.paper.specs.Messages.{codeIn}
 use Rattle.paper.specs.RecordsIn.{inputOf, messageIn}
 use Rattle.paper.specs.RecordsOut.{Record, inOrder}
 use Rattle.paper.specs.Refusals.{Outcome, refused}
@@ -52,34 +53,35 @@ use Rattle.promises.proofs.Harness.{outcome, agreed, errors-heard, line
 use Rattle.promises.proofs.Refused.{refusal-is-all}
 use Rattle.keeping.proofs.Closes.{open-nonzero}
 use Rattle.keeping.proofs.Tested.{sound-test}
-use Rattle.promises.proofs.Verdicts.{complete-answered}
+use Rattle.promises.proofs.Verdicts.{erring-tells, complete-answered}
 
 -- ---- of a message that is answered without an error
 
--- the lines that a message of l bytes to stream i says, where it tells no error
-abbrev pub AnswerTells : ℕ → ℕ → List Line → Outcome → Type 0
-AnswerTells i l ys o = errorsIn (o .records) ≡ [] → telling (said (input.Message i l) (o .opened) (o .records)) ≡ ys
+-- the lines that a message of l bytes to stream i, with n of data, says, where it tells no error
+abbrev pub AnswerTells : ℕ → ℕ → ℕ → List Line → Outcome → Type 0
+AnswerTells i l n ys o = errorsIn (o .records) ≡ [] → telling (said (input.Message i l n) (o .opened) (o .records)) ≡ ys
 
-module _ (t : Table) (i l : ℕ) (m : List ℕ) where
-  tells-accept : {a : ConnectResponse} {o : Outcome} → Replied stateRows t i m (For (request.ConnectRes a)) o → AnswerTells i l (Went i (a .correlation .0) Accepted ∷ []) o
+module _ (t : Table) (i l n : ℕ) (m r : List ℕ) where
+  tells-accept : {a : ConnectResponse} {o : Outcome} → Replied stateRows t i m r (For (request.ConnectRes a)) o → AnswerTells i l n (Went i (a .correlation .0) Accepted ∷ []) o
   unfolding told inOrder ordersIn upsIn effectOf
-  tells-accept (failing v) e = absurd (omega (arith, ap length e))
+  tells-accept (failing {w = w} v) e = erring-tells t i (codeIn m) w e
   tells-accept (serving v h (acceptsHere w k)) e = refl
   tells-accept (serving v h (acceptsOn w k)) e = refl
 
-  tells-denial : {d : DisconnectRequest} {o : Outcome} → 0 < d .correlation .0 → Replied stateRows t i m (For (request.Disconnect d)) o → AnswerTells i l (Went i (d .correlation .0) Denied ∷ []) o
+  tells-denial : {d : DisconnectRequest} {o : Outcome} → 0 < d .correlation .0 → Replied stateRows t i m r (For (request.Disconnect d)) o
+      → AnswerTells i l n (Went i (d .correlation .0) Denied ∷ []) o
   unfolding told inOrder ordersIn upsIn effectOf
-  tells-denial some (failing v) e = absurd (omega (arith, ap length e))
+  tells-denial some (failing {w = w} v) e = erring-tells t i (codeIn m) w e
   tells-denial {d} some (serving v h (denies n w)) e = rw (ne-eqb (d .correlation .0) 0 (λ z. omega (arith, z)))
   tells-denial some (serving v h (disconnects n z)) e = absurd (omega (arith, some, z))
 
 pub heard-answered : (x : Harness) (c : Lending) (s : ℕ) (q : Request) (m : CompleteIn x c s q)
-    → Replied stateRows (tableIn x) s (messageIn (c .bytes) (m .size)) (For q) (outcome (tableIn x) c)
+    → Replied stateRows (tableIn x) s (messageIn (c .bytes) (m .size)) (c .bytes) (For q) (outcome (tableIn x) c)
 heard-answered x c = complete-answered stateRows (tableIn x) (sound-test (tableIn x) (agreed x 0 .sound)) (c .bytes) (length (c .room))
 
 -- what a complete message says where no error is told
 pub message-says : (x : Harness) (c : Lending) (s : ℕ) (q : Request) (ys : List Line) → (m : CompleteIn x c s q)
-    → AnswerTells s (m .size) ys (outcome (tableIn x) c) → errorsHeard x c ≡ [] → telling (saidBy (nextIn x c)) ≡ ys
+    → AnswerTells s (m .size) (m .dataLength) ys (outcome (tableIn x) c) → errorsHeard x c ≡ [] → telling (saidBy (nextIn x c)) ≡ ys
 message-says x c s q ys m h e =
     ap telling (lines-heard x c ∙ ap (λ (p : Input). said p (outcome (tableIn x) c .opened) (outcome (tableIn x) c .records)) (m .read))
     ∙ h (sym (errors-heard x c) ∙ e)
@@ -145,12 +147,12 @@ refused-says-nothing x c h =
 -- A served accept of number n says 'accepted' of n and nothing else,
 pub accept-says : (x : Harness) (c : Lending) (s : ℕ) (a : ConnectResponse) → CompleteIn x c s (request.ConnectRes a)
     → errorsHeard x c ≡ [] → telling (saidBy (nextIn x c)) ≡ Went s (a .correlation .0) Accepted ∷ []
-accept-says x c s a m = message-says x c s (request.ConnectRes a) _ m (tells-accept (tableIn x) s (m .size) _ (heard-answered x c s _ m))
+accept-says x c s a m = message-says x c s (request.ConnectRes a) _ m (tells-accept (tableIn x) s (m .size) (m .dataLength) _ _ (heard-answered x c s _ m))
 
 -- a denial of n 'denied' of n,
 pub denial-says : (x : Harness) (c : Lending) (s : ℕ) (d : DisconnectRequest) → CompleteIn x c s (request.Disconnect d) → 0 < d .correlation .0
     → errorsHeard x c ≡ [] → telling (saidBy (nextIn x c)) ≡ Went s (d .correlation .0) Denied ∷ []
-denial-says x c s d m h = message-says x c s (request.Disconnect d) _ m (tells-denial (tableIn x) s (m .size) _ h (heard-answered x c s _ m))
+denial-says x c s d m h = message-says x c s (request.Disconnect d) _ m (tells-denial (tableIn x) s (m .size) (m .dataLength) _ _ h (heard-answered x c s _ m))
 
 -- a W of n 'withdrawn' of n,
 pub withdrawal-says : (x : Harness) (c : Lending) (s : ℕ) (n : Correlation) (reason : ℕ) → inputOf (c .bytes) ≡ input.CallWithdrawn s n reason

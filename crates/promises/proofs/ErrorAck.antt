@@ -1,5 +1,5 @@
--- Demand 2: "A message answered with DL_ERROR_ACK changes no stream": the effect of an error has nothing in it but the ERROR_ACK, and no
--- other effect says one.
+-- Demand 2: "A message answered with DL_ERROR_ACK changes no stream": the effect of an error has nothing in it but the ERROR_ACK, or of a
+-- datagram's the UDERROR_IND, and no other effect says one.
 use Prim.Native.Nat.{ℕ, _<_}
 use mathlib.Core.Path.{_≡_, refl, ap, _∙_}
 use mathlib.Core.List.{List}
@@ -20,14 +20,16 @@ pub error-holds : (t : Table) (r : List ℕ) (room : ℕ)
     → 0 < length (errorsIn (step t r room .records)) → step t r room .table ≡ t
 error-holds t r room = orderly stateRows t r room .held
 
--- The same of what is lent: a call that answers with DL_ERROR_ACK leaves the very image that it was lent.
-pub error-leaves-image : (img r room : List ℕ)
-    → 0 < length (errorsIn (step (tableOf img) r (length room) .records)) → callOf img r room .image ≡ img
+-- A call that changes nothing of the table leaves the very image that it was lent,
+pub still-leaves-image : (img r room : List ℕ) → step (tableOf img) r (length room) .table ≡ tableOf img → callOf img r room .image ≡ img
 unfolding callOf leaving
-error-leaves-image img r room h =
-    chosen Back _ _ _ (λ e. refl)
-    (λ e. chosen Back _ _ _ (λ f. refl)
-    (λ f. ap imageOf (error-holds (tableOf img) r (length room) h) ∙ image-back img (not-false _ e)))
+still-leaves-image img r room h =
+    chosen Back _ _ _ (λ e. refl) (λ e. chosen Back _ _ _ (λ f. refl) (λ f. ap imageOf h ∙ image-back img (not-false _ e)))
   where
     Back : Left → Type 0
     Back x = x .image ≡ img
+
+-- so does one that answers with an error.
+pub error-leaves-image : (img r room : List ℕ)
+    → 0 < length (errorsIn (step (tableOf img) r (length room) .records)) → callOf img r room .image ≡ img
+error-leaves-image img r room h = still-leaves-image img r room (error-holds (tableOf img) r (length room) h)

@@ -3,11 +3,10 @@ use Prim.Native.Nat.{ℕ}
 use mathlib.Core.Path.{_≡_, refl, sym, ap, _∙_}
 use mathlib.Core.Bool.{true}
 use mathlib.Core.List.{List, [], _∷_}
-use lib.ListN.{length}
-use native.Mathlib.Omega.{arith}
 use borrow.Author.Tests.{eq-eqb}
 use Rattle.paper.specs.Base.{isAmong, boundStates, Table, stream}
 use Rattle.paper.specs.Effects.{ordersIn, upsIn, told, effectOf}
+use Rattle.paper.specs.Messages.{codeIn}
 use Rattle.paper.specs.RecordsOut.{inOrder}
 use Rattle.paper.specs.Refusals.{Outcome}
 use Rattle.paper.specs.Saps.{grantOf}
@@ -27,21 +26,22 @@ use Rattle.promises.specs.Harness.{Lending, Harness, tableIn, heardIn, n
 use Rattle.promises.proofs.Endings.{AnswerTells, heard-answered, message-says}
 use Rattle.promises.proofs.Harness.{agreed, grant-more}
 use Rattle.promises.proofs.Openings.{opening-says}
+use Rattle.promises.proofs.Verdicts.{erring-tells}
 
 -- With each opening it begins anew.
 pub opening-grants-none : (x : Harness) (c : Lending) (s : ℕ) → opensStream s (nextIn x c) ≡ true → grantedBy s (heardIn (andThen x c)) ≡ 0
 opening-grants-none x c s h = grant-more x c s ∙ ap (λ (ys : List Line). grantBy s ys (grantedBy s (heardIn x))) (opening-says x c s h) ∙ rw (eq-eqb s s refl)
 
-tells-bind : (t : Table) (i l : ℕ) (m : List ℕ) {b : BindRequest} {o : Outcome} → Replied stateRows t i m (For (request.Bind b)) o
-    → AnswerTells i l (Given i (grantOf (b .mode) (b .most)) ∷ []) o
+tells-bind : (t : Table) (i l n : ℕ) (m r : List ℕ) {b : BindRequest} {o : Outcome} → Replied stateRows t i m r (For (request.Bind b)) o
+    → AnswerTells i l n (Given i (grantOf (b .mode) (b .most)) ∷ []) o
 unfolding told inOrder ordersIn upsIn effectOf
-tells-bind t i l m (failing v) e = absurd (omega (arith, ap length e))
-tells-bind t i l m (serving v h (binds a)) e = refl
+tells-bind t i l n m r (failing {w = w} v) e = erring-tells t i (codeIn m) w e
+tells-bind t i l n m r (serving v h (binds a)) e = refl
 
 -- A bind that is answered without an error says what it was granted and nothing else,
 pub bind-says : (x : Harness) (c : Lending) (s : ℕ) (b : BindRequest) → CompleteIn x c s (request.Bind b)
     → errorsHeard x c ≡ [] → telling (saidBy (nextIn x c)) ≡ Given s (grantOf (b .mode) (b .most)) ∷ []
-bind-says x c s b m = message-says x c s (request.Bind b) _ m (tells-bind (tableIn x) s (m .size) _ (heard-answered x c s _ m))
+bind-says x c s b m = message-says x c s (request.Bind b) _ m (tells-bind (tableIn x) s (m .size) (m .dataLength) _ _ (heard-answered x c s _ m))
 
 -- sets the count to what the paper grants,
 pub bind-grants : (x : Harness) (c : Lending) (s : ℕ) (b : BindRequest) → CompleteIn x c s (request.Bind b)

@@ -9,13 +9,15 @@ use lib.Seq.{take-at}
 use native.Mathlib.Omega.{arith}
 use borrow.Author.Tests.{ltb-false}
 use Rattle.ledger.specs.Choice.{_⇒_∣_}
-use Rattle.ledger.proofs.Tallies.{chosen}
+use Rattle.ledger.proofs.Tallies.{both-of, chosen}
 use Rattle.octets.specs.Runs.{over}
 use Rattle.paper.specs.Base.{Table, fresh}
 use Rattle.paper.specs.RecordsOut.{allBytes}
 use Rattle.paper.specs.Refusals.{Outcome, refused}
-use Rattle.paper.specs.Step.{step, roomSize}
-use Rattle.table_image.specs.Layout.{tableOf, imageOf}
+use Rattle.paper.specs.Step.{step}
+use Rattle.paper.specs.Room.{frameRoomSize}
+use Rattle.table_image.specs.Layout.{tableOf, imageOf, tidy, soundImage}
+use Rattle.table_image.proofs.ImageBack.{image-back}
 use Rattle.table_image.proofs.TableBack.{table-back}
 use Rattle.call_outcomes.specs.Leaving.{Left, left, refusing, writing, refusalIn, tokenIn, writtenIn, leaving, callOf}
 use Rattle.call_outcomes.specs.Fresh.{Made, freshOf}
@@ -27,12 +29,12 @@ use Rattle.promises.specs.History.{Answered, lines, fates, grantedBy, sa
 use Rattle.promises.proofs.Runs.{Call, answeredBy, run, history}
 use Rattle.promises.specs.Harness.{Lending, leftOn, cameBack, imageAfter, heard, Harness, imageIn, tableIn, heardIn, nextIn, andThen, errorsHeard}
 use Rattle.promises.proofs.Agreement.{Agrees, agrees, kept, fair-history}
-use Rattle.keeping.proofs.Images.{image-tidy}
+use Rattle.keeping.proofs.Images.{image-tidy, table-sound}
 use Rattle.keeping.proofs.Lent.{shaped}
 use Rattle.promises.proofs.Refused.{refusal-is-all, sound-not-sixteen}
 use Rattle.keeping.proofs.Kept.{fresh-sound}
 use Rattle.keeping.proofs.Tested.{sound-test}
-use Rattle.promises.proofs.Whole.{room-enough, read-step, told-step}
+use Rattle.promises.proofs.Whole.{written-few, read-step, told-step}
 use Rattle.fates_book.specs.declared.Line.{Line}
 use Rattle.fates_book.proofs.Said.{said}
 use Rattle.paper.specs.RecordsIn.{inputOf}
@@ -80,7 +82,7 @@ is-step t k c = chosen (IsStep t c) _ _ _
           (none-taken (c .room) (refusing (o .refusal) % 65536) (omega arith))
           ∙ ap (answeredBy (c .bytes)) (sym z);
     })
-    (λ e. let n : length bs ≤ roomSize = room-enough t k (c .bytes) (length (c .room)) in
+    (λ e. let n : length bs ≤ frameRoomSize = written-few t k (c .bytes) (length (c .room)) in
     record {
       image = refl;
       answer = same-answer c (left (writing (length bs) (o .opened)) (imageOf (o .table)) (over bs (c .room))) (o .refusal) (o .opened) bs (omega (arith, ltb-false 0 (o .refusal) e)) (omega arith)
@@ -95,6 +97,11 @@ is-step t k c = chosen (IsStep t c) _ _ _
 
 pub one-call : (t : Table) → Sound t → (c : Lending) → IsStep t c (leftOn (imageOf t) c)
 one-call t k c = subst (IsStep t c) (sym (call-is-step t k (c .bytes) (c .room))) (is-step t k c)
+
+-- On a sound image the call is the step of the table in it.
+pub sound-call : (img : List ℕ) → soundImage img ≡ true → (c : Lending) → IsStep (tableOf img) c (leftOn img c)
+unfolding soundImage
+sound-call img e c = subst (λ (l : List ℕ). IsStep (tableOf img) c (leftOn l c)) (image-back img (both-of (tidy img) _ e .0)) (one-call (tableOf img) (table-sound img e) c)
 
 -- ---- calls in turn
 

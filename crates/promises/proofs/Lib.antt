@@ -6,6 +6,8 @@ pub mod Endings
 pub mod Openings
 pub mod Grants
 pub mod Orders
+pub mod Complaints
+pub mod Datagrams
 -- What they rest on. What an effect writes, what the bytes lent say of their record, and what holds on every way that a call can go.
 pub mod Written
 pub mod Orderly

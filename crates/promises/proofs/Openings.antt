@@ -21,7 +21,7 @@ use Rattle.fates_book.proofs.Said.{orderLine, replyLine, lineOf}
 use Rattle.fates_book.proofs.Shades.{openings, openingsIn, openings-append, length-posts, earlier-posts}
 use Rattle.paper.specs.Base.{Slot, Table, fresh, slot, closed, streamTotal}
 use Rattle.paper.specs.RecordsIn.{inputOf}
-use Rattle.paper.specs.RecordsOut.{Record, order, flush, up}
+use Rattle.paper.specs.RecordsOut.{Record, order, flush, up, unitdata, datum}
 use Rattle.paper.specs.Refusals.{Outcome}
 use Rattle.paper.specs.StateRows.{stateRows}
 use Rattle.paper.specs.Step.{step}
@@ -48,6 +48,7 @@ no-opening-order q i (lineOrder.Accept n) s k = refl
 no-opening-order q i (lineOrder.Disconnect n reason) s k = picked (λ (y : Line). openings s y k ≡ k) (eqb (n .0) 0) Nothing (Went i (n .0) (parting q)) (λ e. refl) (λ e. refl)
 no-opening-order q i lineOrder.Reset s k = refl
 no-opening-order q i lineOrder.ResetAnswer s k = refl
+no-opening-order q i (lineOrder.Unitdata at form) s k = refl
 
 no-opening-reply : (i : ℕ) (r : Reply) (s k : ℕ) → openings s (replyLine i r) k ≡ k
 no-opening-reply i (reply.InfoAck x) s k = refl
@@ -60,12 +61,15 @@ no-opening-reply i (reply.TokenAck x) s k = refl
 no-opening-reply i (reply.DisconnectInd reason n) s k = picked (λ (y : Line). openings s y k ≡ k) (eqb (n .0) 0) Nothing (Went i (n .0) Withdrawn) (λ e. refl) (λ e. refl)
 no-opening-reply i (reply.ResetInd reason) s k = refl
 no-opening-reply i reply.ResetCon s k = refl
+no-opening-reply i (reply.UderrorInd error) s k = refl
 
 no-openings : (q : Input) (rs : List Record) (s k : ℕ) → openingsIn s (map (lineOf q) rs) k ≡ k
 no-openings q [] s k = refl
 no-openings q (order i o called ∷ rs) s k = ap (openingsIn s (map (lineOf q) rs)) (no-opening-order q i o s k) ∙ no-openings q rs s k
 no-openings q (flush i ∷ rs) s k = no-openings q rs s k
 no-openings q (up i r tail ∷ rs) s k = ap (openingsIn s (map (lineOf q) rs)) (no-opening-reply i r s k) ∙ no-openings q rs s k
+no-openings q (unitdata i form addresses ∷ rs) s k = no-openings q rs s k
+no-openings q (datum i body ∷ rs) s k = no-openings q rs s k
 
 token-opens : (s opened k : ℕ) → openingsIn s (openingLines opened) k ≡ k + oneIf (eqb opened (suc s))
 token-opens s zero k = rw (ne-eqb 0 (suc s) (λ e. omega (arith, e))) (omega arith)

@@ -1,9 +1,9 @@
--- Every call is orderly, by every list of rows: a refusal is all there is, an error changes nothing, 128 bytes are room enough, each
--- record written has its size and names and says what it may, and only O and X change which streams are open. What comes to a stream
--- is enacted as an effect, and each of these holds of any effect: so one walk of the ways of a call shows them all.
-use Prim.Native.Nat.{ℕ, suc, _<_, _≤_}
+-- Every call is orderly, by every list of rows: a refusal is all there is, an error changes nothing, the room that it needs is enough,
+-- each record written has its size and names and says what it may, and only O and X change which streams are open. What comes to a
+-- stream is enacted as an effect, and each of these holds of any effect: so one walk of the ways of a call shows them all.
+use Prim.Native.Nat.{ℕ, suc, _+_, _<_, _≤_}
 use native.Mathlib.Omega.{arith}
-use mathlib.Core.Path.{_≡_, refl, sym, ap, _∙_}
+use mathlib.Core.Path.{_≡_, refl, sym, ap, subst, _∙_}
 use mathlib.Core.Bool.{Bool, true, false, not, false≢true}
 use mathlib.Core.List.{List, [], _∷_, _++_, map}
 use lib.ListN.{length, getD}
@@ -17,37 +17,54 @@ use Rattle.fates_book.specs.declared.End.the-variants.{Denied, Withdrawn, Dropp
 use Rattle.fates_book.specs.declared.Line.the-variants.{Went}
 use Rattle.fates_book.specs.Lines.{isMessageOf, mayBeSaid}
 use Rattle.ledger.proofs.Sums.{put-same}
-use Rattle.paper.specs.Base.{Slot, closed, justOpened, Table, slot, stream, waiting, lowestFree, tokenOf, streamTotal, addressSize}
+use Rattle.paper.specs.Base.{Slot, closed, justOpened, Table, slot, stream, waiting, lowestFree, tokenOf, streamTotal, addressSize, formOf}
 use Rattle.paper.specs.Base.{ppaNumbers, macOf, macAt, withSlot, withNumbers, withStream, withCounter, withPpa, remembering}
-use Rattle.paper.specs.Effects.{changed, carried, enacted, ordersIn, behindReply, upsIn, told, errorEffect, effectOf, eventEffect}
-use Rattle.paper.specs.Messages.{codeIn}
+use Rattle.paper.specs.Datagrams.{shownTo, indications}
+use Rattle.paper.specs.Effects.{changed, carried, enacted, ordersIn, errorEffect, effectOf, eventEffect}
+use Rattle.paper.specs.ErrorCodes.{complaintOf}
+use Rattle.paper.specs.Messages.{askedBy}
 use Rattle.paper.specs.Openings.{goodbye, goodbyes}
-use Rattle.paper.specs.RecordsOut.{Record, inOrder}
+use Rattle.paper.specs.RecordsOut.{Record}
 use Rattle.paper.specs.Refusals.{Outcome, refused, served, servedOpening}
-use Rattle.paper.specs.RecordsIn.{inputOf, messageIn}
+use Rattle.paper.specs.RecordsIn.{headSize, messageSize, bodySize, pairSize, sizeOf, inputOf, blockIn, messageIn}
 use Rattle.paper.specs.Sound.{sound}
-use Rattle.paper.specs.Step.{stepBy, roomSize}
+use Rattle.paper.specs.Step.{stepBy}
+use Rattle.paper.specs.Sight.{requestAsks}
+use Rattle.paper.specs.StateRows.{unitdataReq, callArrives, peerAccepted, peerGone, callWithdrawn, peerReset, resetConfirmed}
+use Rattle.paper.specs.Room.{roomSize, roomFor, Fits}
+use Rattle.paper.specs.declared.Asked.the-variants.{For}
 use Rattle.paper.specs.declared.Change.{Change}
 use Rattle.paper.specs.declared.Change.the-variants.{Stays, Becomes, Takes, Loses}
 use Rattle.paper.specs.declared.Effect.{Effect}
 use Rattle.paper.specs.declared.Event.{Event}
+use Rattle.paper.specs.declared.Frame.{Frame}
 use Rattle.paper.specs.declared.Input.{Input}
 use Rattle.paper.specs.declared.Input.the-variants as input
+use Rattle.paper.specs.declared.Kind.the-variants as kind
+use Rattle.paper.specs.declared.Rule.{Rule}
 use Rattle.paper.specs.declared.Service.{Service}
 use Rattle.paper.specs.declared.Request.{Request}
 use Rattle.paper.specs.declared.StateRow.{StateRow}
 use Rattle.paper.specs.declared.Stream.{Stream}
-use Rattle.paper.proofs.Fair.{Fair, informs, tellsToken, attaches, detaches, binds, unbinds, connects, acceptsHere, acceptsOn, denies, disconnects, resets, answersReset}
-use Rattle.paper.proofs.Walk.{done, failing, serving, Brings, arriving, accepted, gone, withdrawn, reset, confirmed, Way, refusing, adding, opening, closing, answering, bringing, any-walk}
+use Rattle.paper.proofs.Fair.{asks, Fair, informs, tellsToken, attaches, detaches, binds, unbinds, connects, acceptsHere, acceptsOn, denies, disconnects, resets, answersReset, sendsData}
+use Rattle.paper.proofs.Walk.{done, erring, erred, failing, serving, Brings, arriving, accepted, gone, withdrawn, reset, confirmed}
+use Rattle.paper.proofs.Walk.{Sent, Way, refusing, adding, opening, closing, answering, bringing, showing, any-walk}
 use Rattle.paper.proofs.RecordsOut.{goodbyes-long}
 use Rattle.paper.proofs.Letters.{Letter, letter, no-close}
-use Rattle.paper.proofs.Effects.{errorsIn, errorsOf, service-silent, event-silent, size, told-errors, told-short}
+use Rattle.paper.proofs.Effects.{errorsIn, errorsOf, service-silent, event-silent, service-fits, error-fits, event-fits, size, told-errors, told-short}
+use Rattle.paper.proofs.Frames.{shown-few, indications-long}
+use Rattle.paper.proofs.Room.{room-within}
+use Rattle.paper.proofs.Pairs.{paired-long}
+use Rattle.paper.proofs.Records.{leastSize, read-long}
+use Rattle.paper.proofs.Tails.{address-field}
+use Rattle.fates_book.proofs.Said.{complaint-said}
 use Rattle.keeping.specs.Soundness.{Sound}
 use Rattle.keeping.proofs.Changes.{eight}
 use Rattle.promises.specs.History.{opensStream, closesStream, openAfter}
-use Rattle.promises.proofs.Written.{AllRight, may-end, lineUp, told-right}
+use Rattle.promises.proofs.Written.{AllRight, may-end, lineUp, told-right, frame-right}
 use Rattle.promises.proofs.Runs.{answeredBy}
-use Rattle.octets.proofs.Runs.{part-length}
+use Rattle.octets.proofs.Runs.{part-most, part-length}
+use Rattle.octets.specs.Blocks.{blockSize}
 
 never-zero : (s : ℕ) → eqb 0 (suc s) ≡ false
 never-zero s = ne-eqb 0 (suc s) (λ e. omega (arith, e))
@@ -85,7 +102,7 @@ module _ (t : Table) (r : List ℕ) (q : Input) where
     -- an error changes nothing
     pub held : 0 < length (errorsIn (o .records)) → o .table ≡ t
     -- room enough, for records that name and say what they may
-    pub short : Sound t → size (o .records) ≤ roomSize
+    pub short : Sound t → size (o .records) ≤ roomFor q
     pub right : Sound t → AllRight t r q (o .records)
     -- a served O alone gives a token, and then no record; it and a served X alone change which streams are open
     pub token : (s : ℕ) → opensStream s (answeredBy r o) ≡ eqb (o .opened) (suc s)
@@ -109,7 +126,7 @@ module _ (t : Table) (r : List ℕ) (q : Input) where
   }
 
   -- served, with no token
-  of-served : (u : Table) (rs : List Record) → (0 < length (errorsIn rs) → u ≡ t) → (Sound t → size rs ≤ roomSize) → (Sound t → AllRight t r q rs)
+  of-served : (u : Table) (rs : List Record) → (0 < length (errorsIn rs) → u ≡ t) → (Sound t → size rs ≤ roomFor q) → (Sound t → AllRight t r q rs)
       → (Sound t → (s : ℕ) → slot u s .isOpen ≡ both (not (closesStream s (answeredBy r (served u rs)))) (slot t s .isOpen)) → Orderly (served u rs)
   of-served u rs h l a d = record {
     bare = λ e. absurd (false≢true e);
@@ -124,58 +141,76 @@ module _ (t : Table) (r : List ℕ) (q : Input) where
   }
 
   -- and no stream is opened or closed: the record is no X
-  of-same-streams : (u : Table) (rs : List Record) → (0 < length (errorsIn rs) → u ≡ t) → (Sound t → size rs ≤ roomSize) → (Sound t → AllRight t r q rs)
+  of-same-streams : (u : Table) (rs : List Record) → (0 < length (errorsIn rs) → u ≡ t) → (Sound t → size rs ≤ roomFor q) → (Sound t → AllRight t r q rs)
       → (getD r 0 0 ≡ 88 → ⊥) → ((s : ℕ) → slot u s .isOpen ≡ slot t s .isOpen) → Orderly (served u rs)
   of-same-streams u rs h l a x d = of-served u rs h l a (λ k s. d s ∙ rw (ne-eqb (getD r 0 0) 88 x))
 
   -- ---- an effect on stream i, where stream c carries
 
   -- its order is right, and its message up says what it may
-  record Proper (i c : ℕ) (m : List ℕ) (e : Effect) : Type 0 where
-    orders : AllRight t r q (ordersIn i c (slot t i) m (e .order))
+  record Proper (i c : ℕ) (e : Effect) : Type 0 where
+    orders : AllRight t r q (ordersIn i c (slot t i) r (e .order))
     says : mayBeSaid r (lineUp i (e .up)) ≡ true
 
-  of-effect : (i c : ℕ) (m : List ℕ) (e : Effect) → (0 < length (errorsOf (e .up)) → enacted t i c m e ≡ t) → Proper i c m e → (getD r 0 0 ≡ 88 → ⊥)
-      → Orderly (done t i c m e)
+  of-effect : (i c : ℕ) (e : Effect) → Fits e → (0 < length (errorsOf (e .up)) → enacted t i c r e ≡ t) → Proper i c e → (getD r 0 0 ≡ 88 → ⊥)
+      → Orderly (done t i c r e)
   unfolding macOf
-  of-effect i c m e a h x =
+  of-effect i c e f a h x =
       of-same-streams _ _
-      (λ z. a (omega (arith, z, ap length (told-errors i c (slot t i) (macAt t i) m e))))
-      (λ k. told-short i c (slot t i) (macAt t i) m (k .macs _ .six) e)
-      (λ k. told-right t r q i c (slot t i) (macAt t i) m (k .macs _ .six) e (h .orders) (h .says))
-      x (open-enacted t i c m e)
+      (λ z. a (omega (arith, z, ap length (told-errors i c (slot t i) (macAt t i) r e))))
+      (λ k. omega (arith, told-short i c (slot t i) (macAt t i) r (k .macs _ .six) e f, room-within q .0))
+      (λ k. told-right t r q i c (slot t i) (macAt t i) r (k .macs _ .six) e (h .orders) (h .says))
+      x (open-enacted t i c r e)
+
+  -- one that breaks a rule
+  of-error : (i code : ℕ) (w : Rule) → (getD r 0 0 ≡ 88 → ⊥) → Orderly (erring t i code w)
+  unfolding enacted changed carried ordersIn
+  of-error i code w x =
+      subst Orderly (sym (erred t i i r code w))
+      (of-effect i i (errorEffect code w) (error-fits code w) (λ z. refl) (record { orders = omega arith; says = ap (mayBeSaid r) (complaint-said i code (complaintOf w)) }) x)
 
   -- one that tells no error
-  of-silent : (i c : ℕ) (m : List ℕ) (e : Effect) → errorsOf (e .up) ≡ [] → Proper i c m e → (getD r 0 0 ≡ 88 → ⊥) → Orderly (done t i c m e)
-  of-silent i c m e a = of-effect i c m e (λ z. absurd (omega (arith, z, ap length a)))
+  of-silent : (i c : ℕ) (e : Effect) → Fits e → errorsOf (e .up) ≡ [] → Proper i c e → (getD r 0 0 ≡ 88 → ⊥) → Orderly (done t i c r e)
+  of-silent i c e f a = of-effect i c e f (λ z. absurd (omega (arith, z, ap length a)))
 
--- ---- what serves a message of stream i
+-- ---- what serves a message of stream i, of l bytes and with n of data
 
-module _ (t : Table) (r : List ℕ) (i l : ℕ) (m : List ℕ) (mine : isMessageOf i r ≡ true) where
-  proper-service : (x : StateRow) {q : Request} {c : ℕ} {v : Service} → Fair t i m q c v
-      → Proper t r (input.Message i l) i c m (effectOf x (tokenOf i) (stream t i) v)
+module _ (t : Table) (r : List ℕ) (i l n : ℕ) (mine : isMessageOf i r ≡ true) (long : messageSize ≤ length r) (few : l ≤ blockSize) where
+  proper-service : (x : StateRow) {q : Request} {c : ℕ} {v : Service} → (requestAsks q .cause ≡ unitdataReq → pairSize ≤ length r) → Fair t i (messageIn r l) q c v
+      → Proper t r (input.Message i l n) i c (effectOf x (tokenOf i) (stream t i) v)
   unfolding effectOf ordersIn
-  proper-service x informs = record { orders = omega arith; says = refl }
-  proper-service x tellsToken = record { orders = omega arith; says = refl }
-  proper-service x (attaches k) = record { orders = omega arith; says = refl }
-  proper-service x detaches = record { orders = omega arith; says = refl }
-  proper-service x (binds b) = record { orders = omega arith; says = mine }
-  proper-service x unbinds = record { orders = omega arith; says = refl }
-  proper-service x (connects {a} h) =
-      record { orders = (record { sized = part-length m (a .offset) addressSize (h .inside); opened = omega arith; may = refl }, omega arith); says = refl }
-  proper-service x (acceptsHere h g) = record { orders = (record { sized = refl; opened = h .numberOpen; may = mine }, omega arith); says = refl }
-  proper-service x (acceptsOn h g) = record { orders = (record { sized = refl; opened = h .numberOpen; may = mine }, omega arith); says = refl }
-  proper-service x (denies {d} e h) =
+  proper-service x p informs = record { orders = omega arith; says = refl }
+  proper-service x p tellsToken = record { orders = omega arith; says = refl }
+  proper-service x p (attaches k) = record { orders = omega arith; says = refl }
+  proper-service x p detaches = record { orders = omega arith; says = refl }
+  proper-service x p (binds b) = record { orders = omega arith; says = mine }
+  proper-service x p unbinds = record { orders = omega arith; says = refl }
+  proper-service x p (connects {a} h) =
+      let w : a .offset + addressSize ≤ length (blockIn r) = omega (arith, h .inside, part-most r headSize l, part-length r headSize blockSize long) in
+      record { orders = (record { sized = part-length (blockIn r) (a .offset) addressSize w; opened = omega arith; may = refl }, omega arith); says = refl }
+  proper-service x p (acceptsHere h g) = record { orders = (record { sized = refl; opened = h .numberOpen; may = mine }, omega arith); says = refl }
+  proper-service x p (acceptsOn h g) = record { orders = (record { sized = refl; opened = h .numberOpen; may = mine }, omega arith); says = refl }
+  proper-service x p (denies {d} e h) =
       let n : ℕ = d .correlation .0 in
       record { orders = (record { sized = refl; opened = either-right (eqb n 0) _ h; may = may-end r i n Denied mine }, omega arith); says = refl }
-  proper-service x (disconnects e z) = record { orders = (record { sized = refl; opened = refl; may = refl }, omega arith); says = refl }
-  proper-service x resets = record { orders = (record { sized = refl; opened = omega arith; may = refl }, omega arith); says = refl }
-  proper-service x answersReset = record { orders = (record { sized = refl; opened = omega arith; may = refl }, omega arith); says = refl }
+  proper-service x p (disconnects e z) = record { orders = (record { sized = refl; opened = refl; may = refl }, omega arith); says = refl }
+  proper-service x p resets = record { orders = (record { sized = refl; opened = omega arith; may = refl }, omega arith); says = refl }
+  proper-service x p answersReset = record { orders = (record { sized = refl; opened = omega arith; may = refl }, omega arith); says = refl }
+  proper-service x p (sendsData {u} h) = record {
+    orders = (
+      record { sized = address-field (blockIn r) (u .offset) (formOf (stream t i .sap)); opened = omega arith; may = refl },
+      (record { sized = part-length r (messageSize + 2) bodySize (p refl); opened = omega arith; may = refl }, omega arith),
+    );
+    says = refl;
+  }
 
 -- ---- what the line brings
 
+abbrev pub eventLetters : List ℕ
+eventLetters = callArrives ∷ peerAccepted ∷ peerGone ∷ callWithdrawn ∷ peerReset ∷ resetConfirmed ∷ []
+
 module _ (t : Table) (r : List ℕ) where
-  proper-event : (x : StateRow) {q : Input} {i : ℕ} {e : Event} → Brings t q i e → Letter r q → Proper t r q i i r (eventEffect x (stream t i) e)
+  proper-event : (x : StateRow) {q : Input} {i : ℕ} {e : Event} → Brings t q i e → Letter r q → Proper t r q i i (eventEffect x (stream t i) e)
   unfolding eventEffect ordersIn
   proper-event x (arriving k h) l = record { orders = omega arith; says = eq-eqb _ _ l }
   proper-event x (accepted o) l = record { orders = omega arith; says = refl }
@@ -185,13 +220,14 @@ module _ (t : Table) (r : List ℕ) where
   proper-event x (reset o) l = record { orders = omega arith; says = refl }
   proper-event x (confirmed o) l = record { orders = omega arith; says = refl }
 
-  no-X : {q : Input} {i : ℕ} {e : Event} → Brings t q i e → Letter r q → getD r 0 0 ≡ 88 → ⊥
-  no-X (arriving k h) l z = omega (arith, l, z)
-  no-X (accepted o) l z = omega (arith, l, z)
-  no-X (gone o) l z = omega (arith, l, z)
-  no-X (withdrawn o) l z = omega (arith, l .kind, z)
-  no-X (reset o) l z = omega (arith, l, z)
-  no-X (confirmed o) l z = omega (arith, l, z)
+  -- its record begins with an event's letter: I, A, D, W, R or S
+  pub event-letter : {q : Input} {i : ℕ} {e : Event} → Brings t q i e → Letter r q → has (getD r 0 0) eventLetters ≡ true
+  event-letter (arriving k h) l = ap (λ (b : ℕ). has b eventLetters) l
+  event-letter (accepted o) l = ap (λ (b : ℕ). has b eventLetters) l
+  event-letter (gone o) l = ap (λ (b : ℕ). has b eventLetters) l
+  event-letter (withdrawn o) l = ap (λ (b : ℕ). has b eventLetters) (l .kind)
+  event-letter (reset o) l = ap (λ (b : ℕ). has b eventLetters) l
+  event-letter (confirmed o) l = ap (λ (b : ℕ). has b eventLetters) l
 
   -- ---- O
 
@@ -257,24 +293,39 @@ module _ (t : Table) (r : List ℕ) where
         ends rs e b a =
             of-served t r (input.Close i) _ rs (λ z. absurd (omega (arith, z, ap length e))) b (λ k. a) (λ k s. rw (l .kind, l .stream) (at-slot s (eqb i s) refl))
 
+  -- ---- f
+
+  of-frame : (rows : List StateRow) (f : Frame) → getD r 0 0 ≡ 102 → sizeOf kind.Frame ≤ length r → Orderly t r (input.Frame f) (served t (indications r f (shownTo rows t r f)))
+  of-frame rows f e w =
+      let streams : List ℕ = shownTo rows t r f in
+      of-same-streams t r (input.Frame f) t (indications r f streams)
+      (λ z. refl)
+      (λ k. omega (arith, indications-long r f w streams, shown-few rows t f r))
+      (λ k. frame-right t r (input.Frame f) r f w streams)
+      (λ z. omega (arith, e, z)) (λ s. refl)
+
 -- ---- every way that a call can go
 
 module _ (rows : List StateRow) (t : Table) (r : List ℕ) where
-  on-each-way : {q : Input} {o : Outcome} → Way rows t r q o → Letter r q → Orderly t r q o
-  unfolding enacted changed carried told ordersIn upsIn behindReply inOrder withPpa
-  on-each-way {q} (refusing some few) l = of-refusal t r q some (omega (arith, few)) (λ e. few)
-  on-each-way (adding {p} a) l =
+  -- (a message of code 0x07 was read with its M)
+  with-data : {i l n : ℕ} {q : Request} → inputOf r ≡ input.Message i l n → Sent t i l n → askedBy (messageIn r l) ≡ For q → requestAsks q .cause ≡ unitdataReq → pairSize ≤ length r
+  with-data {l = l} e s a z = paired-long r e (record { coded = s .coded; whole = s .whole; asks = asks (messageIn r l) a .coded ∙ z })
+
+  on-each-way : {q : Input} {o : Outcome} → Way rows t r q o → inputOf r ≡ q → Letter r q → leastSize q ≤ length r → Orderly t r q o
+  unfolding withPpa
+  on-each-way {q} (refusing some few) e l w = of-refusal t r q some (omega (arith, few)) (λ e. few)
+  on-each-way (adding {p} a) e l w =
       of-same-streams t r (input.AddPpa p) _ [] (λ z. absurd (omega arith)) (λ k. omega arith) (λ k. omega arith) (λ e. omega (arith, l, e)) (λ s. refl)
-  on-each-way (opening h) l = of-opening t r l h
-  on-each-way (closing {i} h) l = of-closing t r i l h
-  on-each-way (answering {i} {l = n} s e (failing {w = w} f)) l =
-      of-effect t r (input.Message i n) i i (messageIn r n) (errorEffect (codeIn (messageIn r n)) w) (λ z. refl) (record { orders = omega arith; says = refl }) (no-close _ (l .kind))
-  on-each-way (answering {i} {l = n} s e (serving {x = x} {c = c} {v = v} f h g)) l =
-      of-silent t r (input.Message i n) i c (messageIn r n) _ (service-silent x (tokenOf i) (stream t i) v)
-      (proper-service t r i n (messageIn r n) (to-both _ _ (l .kind) (eq-eqb _ _ (l .stream))) x g) (no-close _ (l .kind))
-  on-each-way {q} (bringing {i = i} {e = e} {x = x} b h d) l =
-      of-silent t r q i i r _ (event-silent x (stream t i) e) (proper-event t r x b l) (no-X t r b l)
+  on-each-way (opening h) e l w = of-opening t r l h
+  on-each-way (closing {i} h) e l w = of-closing t r i l h
+  on-each-way {q} (answering {i} s a (failing {w = x} f)) e k w = of-error t r q i _ x (no-close _ (k .kind))
+  on-each-way (answering {i} {l = l} {n = n} s a (serving {x = x} {c = c} {v = v} f h g)) e k w =
+      of-silent t r (input.Message i l n) i c _ (service-fits x (tokenOf i) (stream t i) v) (service-silent x (tokenOf i) (stream t i) v)
+      (proper-service t r i l n (to-both _ _ (k .kind) (eq-eqb _ _ (k .stream))) w (s .whole) x (with-data e s a) g) (no-close _ (k .kind))
+  on-each-way {q} (bringing {i = i} {e = b} {x = x} y h d) e l w =
+      of-silent t r q i i _ (event-fits x (stream t i) b) (event-silent x (stream t i) b) (proper-event t r x y l) (λ z. false≢true (sym (ap (λ (b : ℕ). has b eventLetters) z) ∙ event-letter t r y l))
+  on-each-way (showing {f} few y) e l w = of-frame t r rows f (l .kind) w
 
   pub orderly : (room : ℕ) → Orderly t r (inputOf r) (stepBy rows t r room)
   orderly room = any-walk rows t r room (Orderly t r (inputOf r))
-      (λ e. of-refusal t r (inputOf r) (omega arith) (omega arith) (λ z. absurd (false≢true (sym e ∙ z)))) (λ o w. on-each-way w (letter r))
+      (λ e. of-refusal t r (inputOf r) (omega arith) (omega arith) (λ z. absurd (false≢true (sym e ∙ z)))) (λ o w. on-each-way w refl (letter r) (read-long r))

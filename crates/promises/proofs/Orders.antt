@@ -17,7 +17,7 @@ use Rattle.fates_book.proofs.ReadBack.{starts, told-apart}
 use Rattle.fates_book.proofs.Said.{lineOf}
 use Rattle.paper.specs.Base.{Table, waiting}
 use Rattle.paper.specs.RecordsIn.{inputOf}
-use Rattle.paper.specs.RecordsOut.{Record, order, flush, up, bytesOf, allBytes}
+use Rattle.paper.specs.RecordsOut.{Record, order, flush, up, unitdata, datum, bytesOf, allBytes}
 use Rattle.paper.specs.Replies.{goesAsC, contentOf}
 use Rattle.paper.specs.StateRows.{stateRows}
 use Rattle.paper.specs.declared.Input.{Input}
@@ -38,6 +38,7 @@ module _ (t : Table) (r : List ℕ) (q : Input) where
   in-bytes (order i (lineOrder.Disconnect n reason) called) rest h = ap (λ (m : ℕ). either (eqb m 0) (has m (waiting t i))) (be32At-be32 (n .0) []) ∙ h
   in-bytes (order i lineOrder.Reset called) rest h = refl
   in-bytes (order i lineOrder.ResetAnswer called) rest h = refl
+  in-bytes (order i (lineOrder.Unitdata at form) called) rest h = refl
   in-bytes (flush i) rest h = refl
   in-bytes (up i a tail) rest h = go (goesAsC a)
     where
@@ -45,6 +46,8 @@ module _ (t : Table) (r : List ℕ) (q : Input) where
           (pick (eqb (pick b 67 80) 100) (either (eqb (be32At (bytesOf (up i a tail) ++ rest) 2) 0) (has (be32At (bytesOf (up i a tail) ++ rest) 2) (waiting t i))) true) ≡ true
       go true = refl
       go false = refl
+  in-bytes (unitdata i form addresses) rest h = refl
+  in-bytes (datum i body) rest h = refl
 
   all-in-bytes : (rs : List Record) → AllRight t r q rs → allOf (namesOpen (waiting t) (asker q)) (starts rs) ≡ true
   all-in-bytes [] h = refl

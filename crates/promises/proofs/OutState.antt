@@ -1,5 +1,6 @@
 -- Demand 2: "A complete message that we serve gets DL_OUTSTATE exactly if the paper's state table has no row for it, or if an accept, with
--- no earlier error in the paper's order, offers another stream that isn't idle." Of the rules only these two have that error.
+-- no earlier error in the paper's order, offers another stream that isn't idle." Of the rules only these have that error: no row, of a
+-- datagram or of any other message, and a carrier that isn't idle.
 use Prim.Native.Nat.{ℕ}
 use mathlib.Core.Path.{_≡_, refl, sym, ap, _∙_}
 use mathlib.Core.Bool.{true, false, not}
@@ -9,7 +10,7 @@ use Rattle.ledger.specs.Choice.{either}
 use Rattle.ledger.specs.Tally.{has}
 use Rattle.paper.specs.Base.{Table, stream}
 use Rattle.paper.specs.ErrorCodes.{errorOf, outState}
-use Rattle.paper.specs.ErrorOrder.{verdictBy, verdictOn}
+use Rattle.paper.specs.ErrorOrder.{withoutRow, verdictBy, verdictOn}
 use Rattle.paper.specs.RecordsIn.{messageIn}
 use Rattle.paper.specs.Sight.{requestAsks, sightBy}
 use Rattle.paper.specs.Sound.{sound}
@@ -27,13 +28,30 @@ use Rattle.paper.specs.declared.Service.{Service}
 use Rattle.paper.specs.declared.StateRow.{StateRow}
 use Rattle.paper.specs.declared.Verdict.{Verdict}
 use Rattle.paper.proofs.Fair.{Asks, asks, Fair, informs, tellsToken, attaches, detaches, binds, unbinds, connects, acceptsHere, acceptsOn, denies, disconnects, resets}
-use Rattle.paper.proofs.Fair.{answersReset, Offers, Faulty, unknownPpa, unknownMode, managed, automatic, notAllowed, typed, listenedFor, connectQos, notSeven, tooEarly, tooLate, odd}
-use Rattle.paper.proofs.Fair.{notOpen, acceptQos, othersOpen, ofNone, notIdle, otherPpa, connectionless, denialNotOpen, notZero, Judged, fails, serves, judged-fairly}
+use Rattle.paper.proofs.Fair.{answersReset, sendsData, Offers, Faulty, unknownPpa, unknownMode, managed, automatic, notAllowed, typed, listenedFor, connectQos, notSeven, tooEarly, tooLate, odd}
+use Rattle.paper.proofs.Fair.{notOpen, acceptQos, othersOpen, ofNone, notIdle, otherPpa, connectionless, denialNotOpen, notZero}
+use Rattle.paper.proofs.Fair.{otherForm, sentEarly, sentLate, notBindable, Judged, fails, serves, judged-fairly}
 use Rattle.paper.proofs.Effects.{errorsIn}
 use Rattle.promises.specs.Answers.{Complete, hasRow, isBusy, offersBusy}
 use Rattle.promises.proofs.Verdicts.{errorsBy, complete-tells}
 
 -- ---- the verdict on a request
+
+-- with no row
+rowless : (q : Request) → errorOf (withoutRow q) ≡ outState
+unfolding withoutRow
+rowless request.Info = refl
+rowless request.Token = refl
+rowless (request.Attach p) = refl
+rowless request.Detach = refl
+rowless (request.Bind b) = refl
+rowless request.Unbind = refl
+rowless (request.Connect c) = refl
+rowless (request.ConnectRes a) = refl
+rowless (request.Disconnect d) = refl
+rowless request.Reset = refl
+rowless request.ResetRes = refl
+rowless (request.Unitdata u) = refl
 
 module _ (t : Table) (i : ℕ) (m : List ℕ) where
   -- an accept with no error before its carrier is looked at offers a busy stream exactly if that carrier is one
@@ -55,6 +73,7 @@ module _ (t : Table) (i : ℕ) (m : List ℕ) where
   served-says (disconnects e z) = refl
   served-says resets = refl
   served-says answersReset = refl
+  served-says (sendsData h) = refl
 
   rule-says : {q : Request} {w : Rule} → Faulty t i q w → has outState (errorOf w ∷ []) ≡ offersBusy t i q
   rule-says (unknownPpa h) = refl
@@ -78,6 +97,10 @@ module _ (t : Table) (i : ℕ) (m : List ℕ) where
   rule-says (connectionless f n e) = sym (offered f ∙ ap not n)
   rule-says (denialNotOpen e h) = refl
   rule-says (notZero e h) = refl
+  rule-says (otherForm h) = refl
+  rule-says (sentEarly h) = refl
+  rule-says (sentLate h) = refl
+  rule-says (notBindable h) = refl
 
   judged-says : {q : Request} {c : ℕ} {v : Verdict} → Judged t i m q c v → has outState (errorsBy v) ≡ offersBusy t i q
   judged-says (serves f) = served-says f
@@ -89,7 +112,7 @@ module _ (t : Table) (i : ℕ) (m : List ℕ) where
   outState-exactly rows q a = go (found rows (stream t i) (requestAsks q .cause))
     where
       go : (f : Found) → has outState (errorsBy (verdictBy (sightBy t i f (requestAsks q .question)) (For q) f)) ≡ either (not (isFound f)) (offersBusy t i q)
-      go Missing = refl
+      go Missing = ap (λ (n : ℕ). has outState (n ∷ [])) (rowless q)
       go (At x) = judged-says (judged-fairly t i m x q a)
 
 -- ---- of a call

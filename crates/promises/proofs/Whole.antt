@@ -1,4 +1,4 @@
--- Every call writes records of their size, into 128 bytes: so what is read from the bytes written is what the records say.
+-- Every call writes records of their size, into the room that it needs: so what is read from the bytes written is what the records say.
 use Prim.Native.Nat.{ℕ, _≤_}
 use mathlib.Core.Path.{_≡_, refl, ap, _∙_}
 use mathlib.Core.List.{List, [], _∷_, _++_, map, append-nil}
@@ -12,21 +12,27 @@ use Rattle.fates_book.proofs.Said.{said}
 use Rattle.fates_book.proofs.ReadBack.{AllSized, starts, told-apart, lines-said}
 use Rattle.paper.specs.Base.{Table}
 use Rattle.paper.specs.RecordsIn.{inputOf}
-use Rattle.paper.specs.RecordsOut.{Record, order, flush, up, bytesOf, allBytes}
+use Rattle.paper.specs.RecordsOut.{Record, order, flush, up, unitdata, datum, bytesOf, allBytes}
 use Rattle.paper.specs.Replies.{contentOf}
 use Rattle.paper.specs.StateRows.{stateRows}
-use Rattle.paper.specs.Step.{step, roomSize}
+use Rattle.paper.specs.Step.{step}
+use Rattle.paper.specs.Room.{frameRoomSize, roomFor}
 use Rattle.paper.specs.declared.LineOrder.the-variants as lineOrder
 use Rattle.paper.specs.declared.Reply.the-variants as reply
 use Rattle.paper.proofs.Effects.{errorIn, errorsIn}
+use Rattle.paper.proofs.Room.{room-within}
 use Rattle.promises.specs.Answers.{errorAt, errorsTold}
 use Rattle.keeping.specs.Soundness.{Sound}
 use Rattle.promises.proofs.Orderly.{orderly}
 use Rattle.promises.proofs.Written.{all-sized}
 
 module _ (t : Table) (k : Sound t) (r : List ℕ) (room : ℕ) where
-  pub room-enough : length (allBytes (step t r room .records)) ≤ roomSize
+  -- 128 bytes, and for a frame 4,096
+  pub room-enough : length (allBytes (step t r room .records)) ≤ roomFor (inputOf r)
   room-enough = orderly stateRows t r room .short k
+
+  pub written-few : length (allBytes (step t r room .records)) ≤ frameRoomSize
+  written-few = omega (arith, room-enough, room-within (inputOf r) .1)
 
   pub whole-step : AllSized (step t r room .records)
   whole-step = all-sized t r (inputOf r) (step t r room .records) (orderly stateRows t r room .right k)
@@ -49,6 +55,7 @@ error-read (order i (lineOrder.Accept n) called) rest = refl
 error-read (order i (lineOrder.Disconnect n reason) called) rest = refl
 error-read (order i lineOrder.Reset called) rest = refl
 error-read (order i lineOrder.ResetAnswer called) rest = refl
+error-read (order i (lineOrder.Unitdata at form) called) rest = refl
 error-read (flush i) rest = refl
 error-read (up i (reply.InfoAck s) tail) rest = refl
 error-read (up i (reply.BindAck sap granted) tail) rest = refl
@@ -60,6 +67,9 @@ error-read (up i (reply.TokenAck k) tail) rest = refl
 error-read (up i (reply.DisconnectInd reason n) tail) rest = refl
 error-read (up i (reply.ResetInd reason) tail) rest = refl
 error-read (up i reply.ResetCon tail) rest = refl
+error-read (up i (reply.UderrorInd error) tail) rest = ap (λ (e : ℕ). e ∷ []) (omega arith)
+error-read (unitdata i form addresses) rest = refl
+error-read (datum i body) rest = refl
 
 errors-read : (rs : List Record) → joined errorAt (starts rs) ≡ errorsIn rs
 errors-read [] = refl
@@ -69,6 +79,8 @@ errors-read (r ∷ rs) = ap (λ (l : List ℕ). l ++ joined errorAt (starts rs))
     one (order i o called) = refl
     one (flush i) = refl
     one (up i r tail) = ap (λ (l : List ℕ). l ++ errorsIn rs) (append-nil (errorIn r))
+    one (unitdata i form addresses) = refl
+    one (datum i body) = refl
 
 pub told-step : (t : Table) → Sound t → (r : List ℕ) (room : ℕ) → errorsTold (allBytes (step t r room .records)) ≡ errorsIn (step t r room .records)
 told-step t k r room =

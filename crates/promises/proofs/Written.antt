@@ -1,5 +1,5 @@
 -- What the records of a call may name and say: of what an effect writes it is said of each of the three, an order, F and a message
--- up, once.
+-- up, once; and of what a frame is shown by, stream after stream.
 use Prim.Native.Nat.{ℕ, _≤_}
 use native.Mathlib.Omega.{arith}
 use mathlib.Core.Path.{_≡_, refl}
@@ -11,14 +11,19 @@ use Rattle.ledger.specs.Choice.{pick, either}
 use Rattle.ledger.specs.Tally.{has}
 use Rattle.ledger.proofs.Tallies.{picked}
 use Rattle.paper.specs.Base.{Slot, Table, waiting, macSize}
-use Rattle.paper.specs.RecordsOut.{Record, order, flush, up, flushIf, inOrder}
+use Rattle.paper.specs.RecordsOut.{Record, order, flush, up, unitdata, datum, flushIf, inOrder}
 use Rattle.paper.specs.Effects.{ordersIn, upsIn, told}
+use Rattle.paper.specs.Datagrams.{indications}
+use Rattle.paper.specs.RecordsIn.{sizeOf}
 use Rattle.paper.specs.declared.Effect.{Effect}
+use Rattle.paper.specs.declared.Frame.{Frame}
 use Rattle.paper.specs.declared.Input.{Input}
+use Rattle.paper.specs.declared.Kind.the-variants as kind
 use Rattle.paper.specs.declared.LineOrder.the-variants as lineOrder
 use Rattle.paper.specs.declared.Saying.{Saying}
 use Rattle.paper.specs.declared.Saying.the-variants.{Unsaid, Says}
 use Rattle.paper.proofs.Effects.{fits-block}
+use Rattle.paper.proofs.Frames.{addresses-most, frame-data}
 use Rattle.fates_book.specs.Lines.{asker, mayBeSaid}
 use Rattle.fates_book.specs.declared.End.{End}
 use Rattle.fates_book.specs.declared.Line.{Line}
@@ -45,8 +50,11 @@ Opened t q (order i (lineOrder.Accept n) called) = has (n .0) (waiting t (asker 
 Opened t q (order i (lineOrder.Disconnect n reason) called) = either (eqb (n .0) 0) (has (n .0) (waiting t i)) ≡ true
 Opened t q (order i lineOrder.Reset called) = 0 ≤ 0
 Opened t q (order i lineOrder.ResetAnswer called) = 0 ≤ 0
+Opened t q (order i (lineOrder.Unitdata at form) called) = 0 ≤ 0
 Opened t q (flush i) = 0 ≤ 0
 Opened t q (up i a tail) = 0 ≤ 0
+Opened t q (unitdata i form addresses) = 0 ≤ 0
+Opened t q (datum i body) = 0 ≤ 0
 
 module _ (t : Table) (r : List ℕ) (q : Input) where
   -- a record of its size that names and says what it may
@@ -83,3 +91,11 @@ module _ (t : Table) (r : List ℕ) (q : Input) where
     told-right e h g =
         let o : List Record = ordersIn i c own m (e .order) in
         right-append (o ++ flushIf (e .flush) i) (upsIn i mac m (e .up)) (right-append o (flushIf (e .flush) i) h (right-flush (e .flush))) (right-ups (e .up) g)
+
+  -- And so are the indications of a frame.
+  pub frame-right : (m : List ℕ) (f : Frame) → sizeOf kind.Frame ≤ length m → (streams : List ℕ) → AllRight (indications m f streams)
+  frame-right m f w [] = omega arith
+  frame-right m f w (i ∷ streams) = (
+    record { sized = omega (arith, addresses-most m f); opened = omega arith; may = refl },
+    (record { sized = frame-data m f w; opened = omega arith; may = refl }, frame-right m f w streams),
+  )

@@ -6,6 +6,7 @@ use mathlib.Core.List.{List}
 use lib.ListN.{length}
 use Rattle.octets.specs.Runs.{paste}
 use Rattle.octets.specs.Writing.{WroteMost}
+use Rattle.paper.specs.Room.{frameRoomSize}
 use Rattle.table_image.specs.Layout.{soundImage}
 use Rattle.call_outcomes.specs.Leaving.{Left, callMade, isRefused}
 use Rattle.replay_transcript.specs.Transcript.{callText, callTextSize}
@@ -22,10 +23,11 @@ textOn table input t = printed (t .calls + 1) (callOn table input t)
 
 -- ---- one call
 
--- a sound table, and room for the text of a call
-pub record CallRoom (table out : List ℕ) (at : ℕ) : Type 0 where
+-- a sound table, as much room as any call needs, and room for the text of a call
+pub record CallRoom (table room out : List ℕ) (at : ℕ) : Type 0 where
   pub sound : soundImage table ≡ true
-  pub room : at + callTextSize ≤ length out
+  pub roomy : length room ≡ frameRoomSize
+  pub prints : at + callTextSize ≤ length out
 
 -- the table that the call leaves is sound again, its text is written, and whether it was refused is told
 pub record Replayed (table bytes out : List ℕ) (at n : ℕ) (table' out' : List ℕ) (r : Printed) : Type 0 where
@@ -34,24 +36,26 @@ pub record Replayed (table bytes out : List ℕ) (at n : ℕ) (table' out' : Lis
   pub wrote : WroteMost callTextSize (printed n (callMade table bytes)) at (r .end) out out'
   pub told : r .refused ≡ isRefused (callMade table bytes)
 
--- ---- a turn: its table is sound, and its buffers are whole
+-- ---- a turn: its table is sound, and its room and its buffers are whole
 
-pub record Standing (table input output : List ℕ) (t : Turn) : Type 0 where
+pub record Standing (table room input output : List ℕ) (t : Turn) : Type 0 where
   pub sound : soundImage table ≡ true
+  pub roomy : length room ≡ frameRoomSize
   pub reads : length input ≡ bufferSize
   pub prints : length output ≡ bufferSize
   pub fine : Fine t
 
 -- with room for what a call prints
-pub record AtTurn (table input output : List ℕ) (t : Turn) : Type 0 where
+pub record AtTurn (table room input output : List ℕ) (t : Turn) : Type 0 where
   pub sound : soundImage table ≡ true
+  pub roomy : length room ≡ frameRoomSize
   pub reads : length input ≡ bufferSize
   pub prints : length output ≡ bufferSize
   pub ready : Ready t
 
 -- and a number for it
-pub record AtCall (table input output : List ℕ) (t : Turn) : Type 0 where
-  pub turn : AtTurn table input output t
+pub record AtCall (table room input output : List ℕ) (t : Turn) : Type 0 where
+  pub turn : AtTurn table room input output t
   pub numbered : t .calls < mostCalls
 
 -- ---- what is left: after the call of a turn, after the turn, and after any turns

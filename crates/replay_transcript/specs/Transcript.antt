@@ -5,10 +5,10 @@ use lib.ListN.{length, getD, take, drop}
 use lib.Dec.{eqb, ltb}
 use Rattle.ledger.specs.Choice.{_⇒_∣_}
 use Rattle.octets.specs.Runs.{part}
-use Rattle.paper.specs.RecordsOut.{isMessage, sizeOut, startSize}
-use Rattle.paper.specs.Step.{roomSize}
+use Rattle.paper.specs.RecordsOut.{sizeOut, startSize}
+use Rattle.paper.specs.Room.{frameRoomSize}
 use Rattle.text.specs.Digits.{mostDigits, decimal, hex}
-use Rattle.paper.specs.RecordsIn.{headSize}
+use Rattle.paper.specs.RecordsIn.{headSize, messageSize, isMessage}
 
 -- What a line shows behind the stream: of a message its bytes up to L, of other kinds the body's other fields.
 unfoldable pub shownOf : List ℕ → List ℕ
@@ -85,9 +85,9 @@ totals n m = pair n wordRecords m ++ (wordRefusedEnd ++ (10 ∷ []))
 
 -- ---- how much room each takes at most
 
--- a blank and the fields of a record out, which was written into a room
-abbrev pub shownSize : ℕ
-shownSize = 1 + 2 * roomSize
+-- a blank and fields
+abbrev pub shownSize : List ℕ → ℕ
+shownSize shown = 1 + 2 * length shown
 
 -- the longest word between two numbers is ' records, '
 abbrev pub wordSize : ℕ
@@ -100,12 +100,17 @@ pairSize = mostDigits + wordSize + mostDigits
 abbrev pub lineSize : ℕ
 lineSize = pairSize + wordSize
 
-abbrev pub recordLineSize : ℕ
-recordLineSize = pairSize + shownSize + 1
+-- What a line takes for each byte of its record: that of the shortest, of two bytes, a pair, a blank and an end. A byte more is shown in
+-- two digits, and of a message no L shows as much as its 99 bytes allow.
+abbrev pub perByte : ℕ
+perByte = (pairSize + 1 + 1) / startSize
 
--- all that a call prints
+abbrev pub recordLineSize : List ℕ → ℕ
+recordLineSize r = perByte * sizeOut (getD r 0 0)
+
+-- all that a call prints: its records stand in a room, and one that is cut begins there
 abbrev pub callTextSize : ℕ
-callTextSize = 20000
+callTextSize = perByte * (frameRoomSize + messageSize)
 
 -- What is shown is short enough, and so much room is lent for its text, from a place on.
 pub record Fits (most : ℕ) (shown : List ℕ) (size at : ℕ) (out : List ℕ) : Type 0 where

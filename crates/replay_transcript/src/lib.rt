@@ -3,8 +3,9 @@ ghost use mathlib.Core.Path.{_≡_};
 ghost use Prim.Native.Nat.{_+_, _≤_};
 ghost use lib.ListN.{length, take};
 ghost use Rattle.octets.specs.Writing.{Wrote, WroteMost};
-ghost use Rattle.paper.specs.Step.{roomSize};
-ghost use Rattle.replay_transcript.specs.Transcript.{shownOf, pair, spaced, recordLine, allLines, refusedLine, openLine, okLine, callText, title, totals, shownSize, wordSize, pairSize, lineSize, recordLineSize, callTextSize, Fits};
+ghost use Rattle.paper.specs.Room.{frameRoomSize};
+ghost use Rattle.replay_transcript.specs.Transcript.{shownOf, pair, spaced, recordLine, allLines, refusedLine, openLine, okLine, callText, title, totals};
+ghost use Rattle.replay_transcript.specs.Transcript.{shownSize, wordSize, pairSize, lineSize, recordLineSize, callTextSize, Fits};
 ghost use Rattle.paper.specs.Base.{stream};
 
 // What a line shows behind the stream: of a message its bytes up to L, of other kinds the body's other fields.
@@ -24,8 +25,8 @@ fn shown<'a>(r: &'a [u8]) -> &'a [u8]
 
 // The fields in hex behind a space; nothing where there are none.
 fn put_shown(out: &mut [u8], at: usize, s: &[u8]) -> usize
-    requires { ⌜ Fits roomSize (now s) shownSize at (now out) ⌝ }
-    ensures { λ e. ⌜ WroteMost shownSize (spaced (now (s .entry))) at e (now (out .entry)) (now (out .exit)) ⌝ }
+    requires { ⌜ at + shownSize (now s) ≤ length (now out) ⌝ }
+    ensures { λ e. ⌜ WroteMost (shownSize (now (s .entry))) (spaced (now (s .entry))) at e (now (out .entry)) (now (out .exit)) ⌝ }
 {
     if s.len() == 0 {
         return at;
@@ -46,8 +47,8 @@ fn put_pair(out: &mut [u8], at: usize, n: u64, word: &[u8], m: u64) -> usize
 
 // One line for each record out: the call's number, the kind, the stream, the fields in hex.
 fn put_record(out: &mut [u8], at: usize, n: u64, r: &[u8]) -> usize
-    requires { ⌜ Fits roomSize (now r) recordLineSize at (now out) ⌝ }
-    ensures { λ e. ⌜ WroteMost recordLineSize (recordLine n (now (r .entry))) at e (now (out .entry)) (now (out .exit)) ⌝ }
+    requires { ⌜ at + recordLineSize (now r) ≤ length (now out) ⌝ }
+    ensures { λ e. ⌜ WroteMost (recordLineSize (now (r .entry))) (recordLine n (now (r .entry))) at e (now (out .entry)) (now (out .exit)) ⌝ }
 {
     let kind = octets::byte_at(r, 0);
     let stream = octets::byte_at(r, 1);
@@ -58,7 +59,7 @@ fn put_record(out: &mut [u8], at: usize, n: u64, r: &[u8]) -> usize
 
 // The lines of records that stand one behind the other.
 fn put_lines(out: &mut [u8], at: usize, n: u64, rs: &[u8]) -> usize
-    requires { ⌜ Fits roomSize (now rs) callTextSize at (now out) ⌝ }
+    requires { ⌜ Fits frameRoomSize (now rs) callTextSize at (now out) ⌝ }
     ensures { λ e. ⌜ WroteMost callTextSize (allLines n (now (rs .entry))) at e (now (out .entry)) (now (out .exit)) ⌝ }
 {
     let mut e = at;
@@ -110,7 +111,7 @@ pub fn start_of<'a>(room: &'a [u8], n: usize) -> &'a [u8]
 
 // What is printed of the call with a number of its own: from what the call returned, and the room that it left.
 pub fn put_call(out: &mut [u8], at: usize, n: u64, answer: u32, room: &[u8]) -> usize
-    requires { ⌜ Fits roomSize (now room) callTextSize at (now out) ⌝ }
+    requires { ⌜ Fits frameRoomSize (now room) callTextSize at (now out) ⌝ }
     ensures { λ e. ⌜ WroteMost callTextSize (callText n answer (now (room .entry))) at e (now (out .entry)) (now (out .exit)) ⌝ }
 {
     let refusal = answer / 65536 % 256;

@@ -4,6 +4,7 @@ ghost use Prim.Native.Nat.{suc};
 ghost use lib.Dec.{eqb};
 ghost use lib.ListN.{getD};
 ghost use Rattle.ledger.specs.Choice.{either};
+ghost use Rattle.octets.specs.Runs.{sameBytes};
 ghost use Rattle.ledger.specs.Tally.{firstOf};
 ghost use Rattle.paper.specs.Base.{stream, noPpa, knows, macOf};
 ghost use Rattle.paper.specs.Saps.{listens, listener, isListenedFor};
@@ -74,6 +75,15 @@ pub fn mac_of(img: &[u8], p: PpaNumber) -> [u8; MAC_SIZE]
         return mac_at_place(img, k);
     }
     [0; MAC_SIZE]
+}
+
+// The called MAC is that of the PPA.
+pub fn has_mac(img: &[u8], p: PpaNumber, called: &[u8]) -> bool
+    requires { ⌜ Lent (now img) ⌝ }
+    ensures { λ b. ⌜ b ≡ sameBytes (now (called .entry)) (macOf (tableOf (now (img .entry))) p) ⌝ }
+{
+    let mac = mac_of(img, p);
+    octets::same_bytes(called, &mac)
 }
 
 // A stream that was granted over 0 listens, for its PPA and SAP. The SAP is asked first: it is another for most.

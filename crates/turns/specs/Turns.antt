@@ -9,13 +9,13 @@ use lib.ListN.{length, take}
 use Rattle.ledger.specs.Choice.{both, either, _⇒_∣_}
 use Rattle.ledger.specs.Tally.{oneIf}
 use Rattle.octets.specs.Runs.{part}
-use Rattle.paper.specs.RecordsIn.{messageSize, recordSize}
+use Rattle.paper.specs.RecordsIn.{pairSize, recordSize}
 use Rattle.call_outcomes.specs.Leaving.{Left, callMade}
 use Rattle.turns.specs.declared.Turn.{Turn}
 
 -- a buffer of the program
 abbrev pub bufferSize : ℕ
-bufferSize = 65536
+bufferSize = 163840
 
 -- what may wait to be written while a call is made: the text of a call has room behind it
 abbrev mostWaiting : ℕ
@@ -50,7 +50,7 @@ callOn table input t = callMade table (unread input t)
 
 -- A record may be cut, and more bytes may come.
 abbrev pub waits : Turn → Bool
-waits t = both (ltb (t .end - t .start) messageSize) (not (t .ended))
+waits t = both (ltb (t .end - t .start) pairSize) (not (t .ended))
 
 -- No bytes are left, or no numbers to count calls with.
 abbrev pub isOver : Turn → Bool
@@ -121,9 +121,9 @@ pub record CallMade (input : List ℕ) (filled : ℕ) (t : Turn) : Type 0 where
   pub ready : Ready t
   pub numbered : t .calls < mostCalls
 
--- some bytes of a buffer, no more than a longest record has
+-- some bytes of a buffer, no more than the longest record has with its data
 pub record Rest (n from : ℕ) (buffer : List ℕ) : Type 0 where
-  pub few : n ≤ messageSize
+  pub few : n ≤ pairSize
   pub within : from + n ≤ length buffer
 
 -- ---- reading on and writing out

@@ -1,11 +1,14 @@
 // Where a program stands that reads records on standard input and prints a text for each call; how it reads on and writes out.
 ghost use mathlib.Core.Path.{_≡_};
 ghost use Prim.Native.Nat.{_+_, _<_, _≤_};
+ghost use lib.ListN.{length};
 ghost use Rattle.ledger.specs.Tally.{oneIf};
 ghost use Rattle.octets.specs.Runs.{part, paste};
 ghost use Rattle.turns.specs.Turns.{bufferSize, mostCalls, firstTurn, waits, isOver, stopping, afterCall};
 ghost use Rattle.turns.specs.Turns.{Ready, FineAs, Buffer, CallMade, Rest, Fed, Drained};
 
+// A buffer of the program.
+const BUFFER_SIZE: usize = 163840;
 // What may wait to be written while a call is made: the text of a call has room behind it.
 const MOST_WAITING: usize = 45000;
 // 64 bits count no more.
@@ -22,6 +25,13 @@ pub struct Turn {
     pub refused: u64,
     pub going: bool,
     pub failed: bool,
+}
+
+// Zeros, to read into or to print from.
+pub fn buffer() -> [u8; BUFFER_SIZE]
+    ensures { λ r. ⌜ length r ≡ bufferSize ⌝ }
+{
+    [0; BUFFER_SIZE]
 }
 
 // Nothing is read and nothing counted; the output may have a first line.
@@ -41,12 +51,12 @@ pub fn first_turn(filled: usize) -> Turn
     }
 }
 
-// Bytes of a buffer, no more than a longest record has, to its start.
+// Bytes of a buffer, no more than the longest record has with its data, to its start.
 fn shift(buf: &mut [u8], from: usize, n: usize)
     requires { ⌜ Rest n from (now buf) ⌝ }
     ensures { λ _. ⌜ now (buf .exit) ≡ paste (now (buf .entry)) 0 (part (now (buf .entry)) from n) ⌝ }
 {
-    let mut rest = [0u8; paper::MESSAGE_SIZE];
+    let mut rest = [0u8; paper::PAIR_SIZE];
     octets::put_bytes(&mut rest, 0, &buf[from..from + n]);
     octets::put_bytes(buf, 0, &rest[0..n]);
 }
@@ -58,7 +68,7 @@ pub fn fed(input: &mut [u8], t: Turn) -> Turn
 {
     let start = t.start;
     let left = t.end - start;
-    if paper::MESSAGE_SIZE <= left || t.ended {
+    if paper::PAIR_SIZE <= left || t.ended {
         return t;
     }
     shift(input, start, left);
@@ -103,7 +113,7 @@ pub fn waits(t: Turn) -> bool
     requires { ⌜ Ready t ⌝ }
     ensures { λ r. ⌜ r ≡ waits t ⌝ }
 {
-    if t.end - t.start < paper::MESSAGE_SIZE {
+    if t.end - t.start < paper::PAIR_SIZE {
         return !t.ended;
     }
     false

@@ -4,7 +4,7 @@ ghost use Prim.Native.Nat.{_≤_};
 ghost use lib.ListN.{length};
 ghost use Rattle.octets.specs.Runs.{part};
 ghost use Rattle.octets.specs.Blocks.{blockSize};
-ghost use Rattle.paper.specs.Base.{addressSize};
+ghost use Rattle.paper.specs.Base.{addressSize, lengthOf};
 ghost use Rattle.paper.specs.Messages.{codeIn, otherCode, primitiveOf, sized, readAs, askedBy};
 ghost use Rattle.paper.specs.declared.Primitive.the-variants as primitive;
 ghost use Rattle.wire_messages.specs.Whole.{Whole};
@@ -15,12 +15,14 @@ use paper::ConnectRequest;
 use paper::ConnectResponse;
 use paper::Correlation;
 use paper::DisconnectRequest;
+use paper::Form;
 use paper::MAC_SIZE;
 use paper::PpaNumber;
 use paper::Primitive;
 use paper::Request;
 use paper::Rule;
 use paper::Token;
+use paper::UnitdataRequest;
 
 pub fn code_in(m: &[u8]) -> u32
     requires { ⌜ 4 ≤ length (now m) ⌝ }
@@ -29,12 +31,11 @@ pub fn code_in(m: &[u8]) -> u32
     octets::number32_inside(m, 0)
 }
 
-// The codes that are not in the paper's table: eight of them are known, but not supported.
+// The codes that are not in the paper's table: seven of them are known, but not supported.
 fn other_code(code: u32) -> Primitive
     ensures { λ r. ⌜ r ≡ otherCode code ⌝ }
 {
     match code {
-        0x07 => Primitive::NotSupported,
         0x0a => Primitive::NotSupported,
         0x15 => Primitive::NotSupported,
         0x1b => Primitive::NotSupported,
@@ -62,6 +63,7 @@ fn primitive_of(code: u32) -> Primitive
         0x13 => Primitive::Disconnect,
         0x17 => Primitive::Reset,
         0x19 => Primitive::ResetRes,
+        0x07 => Primitive::Unitdata,
         _ => other_code(code),
     }
 }
@@ -133,6 +135,22 @@ fn disconnect_in(m: &[u8]) -> Asked
     of_size(12, m, Request::Disconnect(asked))
 }
 
+// The SAP or type is read in the form that the address length has. As in a connect, a byte past the message reads as 0.
+fn unitdata_in(m: &[u8]) -> Asked
+    requires { ⌜ length (now m) ≤ blockSize ⌝ }
+    ensures { λ r. ⌜ r ≡ readAs primitive.Unitdata (now (m .entry)) ⌝ }
+{
+    let length = octets::number32_at(m, 4);
+    let offset = octets::number32_at(m, 8);
+    let asked = UnitdataRequest {
+        length,
+        offset,
+        size: m.len() as u8,
+        sap: paper::sap_at(m, paper::form_in(length), offset as usize + MAC_SIZE),
+    };
+    of_size(20, m, Request::Unitdata(asked))
+}
+
 // Step 1 of the order of errors: what a message of at least four bytes asks for.
 pub fn asked_by(m: &[u8]) -> Asked
     requires { ⌜ Whole (now m) ⌝ }
@@ -150,6 +168,7 @@ pub fn asked_by(m: &[u8]) -> Asked
         Primitive::Disconnect => disconnect_in(m),
         Primitive::Reset => of_size(4, m, Request::Reset),
         Primitive::ResetRes => of_size(4, m, Request::ResetRes),
+        Primitive::Unitdata => unitdata_in(m),
         Primitive::NotSupported => Asked::Wrong(Rule::NotSupported),
         Primitive::NotServed => Asked::Wrong(Rule::NotServed),
     }
@@ -160,4 +179,11 @@ pub fn address_at<'a>(m: &'a [u8], at: u8) -> &'a [u8]
     ensures { λ r. ⌜ now r ≡ part (now (m .entry)) at addressSize ⌝ }
 {
     octets::part_at(m, at as usize, ADDRESS_SIZE)
+}
+
+// A datagram's address, of the bytes of its form, as that part of the lent block.
+pub fn address_in<'a>(block: &'a [u8], at: u8, form: Form) -> &'a [u8]
+    ensures { λ r. ⌜ now r ≡ part (now (block .entry)) at (lengthOf form) ⌝ }
+{
+    octets::part_at(block, at as usize, paper::length_of(form))
 }

@@ -2,21 +2,23 @@
 ghost use mathlib.Core.Path.{_≡_};
 ghost use mathlib.Core.Bool.{true};
 ghost use mathlib.Core.List.{[], _∷_, _++_};
-ghost use Prim.Native.Nat.{_≤_};
+ghost use Prim.Native.Nat.{_+_, _≤_};
 ghost use lib.ListN.{length};
 ghost use Rattle.ledger.specs.Choice.{pick};
-ghost use Rattle.octets.specs.Blocks.{flat};
+ghost use Rattle.octets.specs.Blocks.{flat, pad, padTo};
 ghost use Rattle.octets.specs.Writing.{Wrote, WroteMost};
-ghost use Rattle.paper.specs.Base.{isAmong, toldStates};
-ghost use Rattle.paper.specs.RecordsIn.{messageSize};
-ghost use Rattle.paper.specs.RecordsOut.{order, up, bytesOf, allBytes, flushIf, messageBytes};
-ghost use Rattle.paper.specs.RecordsOut.{startSize, connectSize, acceptSize, disconnectSize};
-ghost use Rattle.paper.specs.Replies.{addressOf, infoFields, infoTail, mostAddress, mostTail};
-ghost use Rattle.wire_replies.specs.Rooms.{Calls, InBlock, Behind, BehindInfo, SapTakes, messageUnder};
+ghost use Rattle.paper.specs.Base.{mostAddress, lengthOf, isAmong, toldStates};
+ghost use Rattle.paper.specs.RecordsIn.{messageSize, dataSize, pairSize};
+ghost use Rattle.paper.specs.RecordsOut.{order, up, datum, bytesOf, allBytes, flushIf, messageBytes};
+ghost use Rattle.paper.specs.RecordsOut.{startSize, connectSize, acceptSize, disconnectSize, unitdataSize};
+ghost use Rattle.paper.specs.Replies.{addressOf, infoFields, infoTail, mostTail, unitdataFields};
+ghost use Rattle.wire_replies.specs.Rooms.{Calls, Sends, Carries, InBlock, Behind, BehindInfo, Addressed, Indicates, SapTakes, messageUnder};
+use octets::BLOCK_SIZE;
 use paper::ACCEPT_SIZE;
 use paper::ADDRESS_SIZE;
 use paper::Correlation;
 use paper::DISCONNECT_SIZE;
+use paper::Form;
 use paper::HEAD_SIZE;
 use paper::LineOrder;
 use paper::MAC_SIZE;
@@ -25,6 +27,7 @@ use paper::MOST_ADDRESS;
 use paper::Reply;
 use paper::START_SIZE;
 use paper::Stream;
+use paper::UNITDATA_SIZE;
 
 // ---- orders to the line, and the flush
 
@@ -58,7 +61,17 @@ fn put_disconnect(room: &mut [u8], s: u8, c: Correlation, reason: u32) -> usize
     DISCONNECT_SIZE
 }
 
-// An order that carries no address.
+// u: stream, address length.
+fn put_unitdata_start(room: &mut [u8], s: u8, form: Form) -> usize
+    requires { ⌜ startSize + 1 ≤ length (now room) ⌝ }
+    ensures { λ n. ⌜ Wrote (117 ∷ s ∷ lengthOf form ∷ []) 0 n (now (room .entry)) (now (room .exit)) ⌝ }
+{
+    let size = paper::length_of(form);
+    octets::put_bytes(room, 0, &[b'u', s, size as u8]);
+    START_SIZE + 1
+}
+
+// An order without the address that c and u carry.
 pub fn put_order(room: &mut [u8], s: u8, o: LineOrder) -> usize
     requires { ⌜ disconnectSize ≤ length (now room) ⌝ }
     ensures { λ n. ⌜ WroteMost disconnectSize (bytesOf (order s o [])) 0 n (now (room .entry)) (now (room .exit)) ⌝ }
@@ -69,6 +82,7 @@ pub fn put_order(room: &mut [u8], s: u8, o: LineOrder) -> usize
         LineOrder::Disconnect(c, reason) => put_disconnect(room, s, c, reason),
         LineOrder::Reset => put_start(room, b'r', s),
         LineOrder::ResetAnswer => put_start(room, b's', s),
+        LineOrder::Unitdata(_, form) => put_unitdata_start(room, s, form),
     }
 }
 
@@ -80,6 +94,29 @@ pub fn put_connect(room: &mut [u8], s: u8, at: u8, called: &[u8]) -> usize
     let at = put_start(room, b'c', s);
     octets::put_bytes(room, at, called);
     at + called.len()
+}
+
+// u: stream, address length, 8 bytes of address, zero past its length.
+pub fn put_unitdata(room: &mut [u8], s: u8, at: u8, form: Form, address: &[u8]) -> usize
+    requires { ⌜ Sends form (now address) (now room) ⌝ }
+    ensures { λ n. ⌜ WroteMost unitdataSize (bytesOf (order s (LineOrder.Unitdata at form) (padTo mostAddress (now (address .entry)))))
+        0 n (now (room .entry)) (now (room .exit)) ⌝ }
+{
+    let mut field = [0u8; MOST_ADDRESS];
+    octets::put_bytes(&mut field, 0, address);
+    let at = put_unitdata_start(room, s, form);
+    octets::put_bytes(room, at, &field);
+    UNITDATA_SIZE
+}
+
+// M: stream; length and data as they were lent.
+pub fn put_data(room: &mut [u8], s: u8, body: &[u8]) -> usize
+    requires { ⌜ Carries (now body) (now room) ⌝ }
+    ensures { λ n. ⌜ WroteMost dataSize (bytesOf (datum s (now (body .entry)))) 0 n (now (room .entry)) (now (room .exit)) ⌝ }
+{
+    let at = put_start(room, b'M', s);
+    octets::put_bytes(room, at, body);
+    at + body.len()
 }
 
 // F: stream; nothing where no flush is due.
@@ -226,7 +263,42 @@ pub fn put_up(room: &mut [u8], s: u8, reply: Reply, tail: &[u8]) -> usize
         }
         Reply::ResetInd(reason) => put_message(room, b'P', s, &[0x18, 0x0701, reason], tail),
         Reply::ResetCon => put_message(room, b'P', s, &[0x1a], tail),
+        Reply::UderrorInd(error) => put_message(room, b'P', s, &[0x09, 0, 0, 0, error], tail),
     }
+}
+
+// ---- UNITDATA_IND, which a frame shows to one stream after another
+
+// Called, then calling right behind it.
+fn put_addresses(room: &mut [u8], called: &[u8], calling: &[u8]) -> usize
+    requires { ⌜ length (now called) + length (now calling) ≤ length (now room) ⌝ }
+    ensures { λ n. ⌜ Wrote (now (called .entry) ++ now (calling .entry)) 0 n (now (room .entry)) (now (room .exit)) ⌝ }
+{
+    octets::put_bytes(room, 0, called);
+    octets::put_bytes(room, called.len(), calling);
+    called.len() + calling.len()
+}
+
+// Its block: called length, offset 24, calling length, the offset right behind called, group flag 0; then both addresses.
+pub fn unitdata_block(form: Form, called: &[u8], calling: &[u8]) -> [u8; BLOCK_SIZE]
+    requires { ⌜ Addressed form (now called) (now calling) ⌝ }
+    ensures { λ r. ⌜ r ≡ pad (flat (unitdataFields form) ++ now (called .entry) ++ now (calling .entry)) ⌝ }
+{
+    let size = paper::length_of(form) as u32;
+    let mut both = [0u8; 2 * MOST_ADDRESS];
+    let end = put_addresses(&mut both, called, calling);
+    octets::block_with(&[0x08, size, 24, size, 24 + size, 0], &both[0..end])
+}
+
+// P with that block, and its M right behind it.
+pub fn put_indication(room: &mut [u8], s: u8, size: u8, block: &[u8], body: &[u8]) -> usize
+    requires { ⌜ Indicates (now block) (now body) (now room) ⌝ }
+    ensures { λ n. ⌜ WroteMost pairSize ((80 ∷ s ∷ size ∷ []) ++ now (block .entry) ++ bytesOf (datum s (now (body .entry))))
+        0 n (now (room .entry)) (now (room .exit)) ⌝ }
+{
+    octets::put_bytes(room, 0, &[b'P', s, size]);
+    octets::put_bytes(room, HEAD_SIZE, block);
+    MESSAGE_SIZE + put_data(&mut room[MESSAGE_SIZE..], s, body)
 }
 
 // ---- addresses, which stand behind the fields of a message up

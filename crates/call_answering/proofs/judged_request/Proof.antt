@@ -74,6 +74,17 @@ returns-11 c =
     let told = c .before .enum-told6 .given .1 in
     λ x. record { verdict = rw (told, c .alone9 .ensures); carrier = rw (told, c .alone9 .ensures) }
 
+returns-12 : tie.Need-returns-12
+unfolding judgeRequest answerTo
+returns-12 c =
+    let datagram = c .before .before .before in
+    let lent = datagram .before .before .before in
+    let told = datagram .q6 .given .1 in
+    λ x. record {
+      verdict = rw (told, c .alone10 .ensures, c .before .judge-datagram .ensures, lent .pre .loaded);
+      carrier = rw (told, c .alone10 .ensures);
+    }
+
 pub judged-request-spec : {M : Type 1} → statement M
 judged-request-spec =
     tie.close
@@ -105,6 +116,9 @@ judged-request-spec =
     (λ c κs. search needs)
     (λ c. search needs)
     (λ c κs. search needs)
+    (λ c. search needs)
+    (λ c κs. search needs)
+    (λ c κs. search needs)
     returns
     returns-2
     returns-3
@@ -115,4 +129,5 @@ judged-request-spec =
     returns-8
     returns-9
     returns-10
-    returns-11)
+    returns-11
+    returns-12)

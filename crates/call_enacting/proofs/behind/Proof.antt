@@ -17,7 +17,7 @@ returns-2 c = rw (c .before .enum-told2 .given .1) (c .part-at2 .ensures)
 returns-3 : tie.Need-returns-3
 returns-3 c =
     let a = c .before .before .before .args in
-    not-event (now (a .own)) (now (a .m)) (a .reply) (c .match .keys3)
+    not-event (now (a .own)) (now (a .r)) (a .reply) (c .match .keys3)
 
 pub behind-spec : {M : Type 1} → statement M
 behind-spec =

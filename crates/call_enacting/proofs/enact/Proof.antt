@@ -33,7 +33,7 @@ returns c =
     let t = tableOf img in
     let i = a .args .i in
     let k = a .args .c in
-    let m = now (a .args .m) in
+    let m = now (a .args .r) in
     let e = a .args .e in
     let shaped = shaped-changed t (a .pre .call .lent .shaped) i (e .change) (a .pre .fits .place) in
     leaves-served img (now (a .args .room)) (enacted t i k m e) (told i k (slot t i) (macAt t i) m e) _ _ _

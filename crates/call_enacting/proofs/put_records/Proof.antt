@@ -24,9 +24,9 @@ returns c =
     let orders = at-put-orders .put-orders .ensures in
     let flush = at-put-flush-if .put-flush-if .ensures in
     let ups = at-put-replies .put-replies .ensures in
-    let one = allBytes (ordersIn (a .i) (a .c) (slot t (a .i)) (now (a .m)) (a .e .order)) in
+    let one = allBytes (ordersIn (a .i) (a .c) (slot t (a .i)) (now (a .r)) (a .e .order)) in
     let two = allBytes (flushIf (a .e .flush) (a .i)) in
-    let three = allBytes (upsIn (a .i) (macAt t (a .i)) (now (a .m)) (a .e .up)) in
+    let three = allBytes (upsIn (a .i) (macAt t (a .i)) (now (a .r)) (a .e .up)) in
     rw bytes-in-order
     (wrote-most (omega (arith, orders .few, flush .few, ups .few))
     (wrote-next (one ++ two) three (wrote-next one two (orders .each (slot t (a .i))) (wrote-of flush)) (wrote-of ups)))

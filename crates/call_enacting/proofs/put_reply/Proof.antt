@@ -34,7 +34,7 @@ put-up-requires c κs =
     let at-put-own-address = c .before .before .before .before .before in
     let a = at-put-own-address .before .before .before .before .before in
     let mac = macAt (tableOf (now (a .args .img))) (a .args .i) in
-    let m = now (a .args .m) in
+    let m = now (a .args .r) in
     let own = at-put-own-address .put-own-address .ensures in
     let tail = handed mac m (replicate mostTail 0) (a .args .reply) own (c .before .behind .ensures) in
     record { short = rw tail (tail-most mac (mac-length _ (a .pre .at .lent .shaped) _) m (a .args .reply)); roomy = search needs }
@@ -47,7 +47,7 @@ returns c =
     let a = at-put-own-address .before .before .before .before .before .args in
     let mac = macAt (tableOf (now (a .img))) (a .i) in
     let own = at-put-own-address .put-own-address .ensures in
-    let tail = handed mac (now (a .m)) (replicate mostTail 0) (a .reply) own (at-behind .behind .ensures) in
+    let tail = handed mac (now (a .r)) (replicate mostTail 0) (a .reply) own (at-behind .behind .ensures) in
     wrote-same (ap (λ (l : List ℕ). bytesOf (up (a .i) (a .reply) l)) tail) (at-put-up .put-up .ensures)
 
 pub put-reply-spec : {M : Type 1} → statement M

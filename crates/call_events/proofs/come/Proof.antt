@@ -1,5 +1,8 @@
 -- By no row an event is refused, else it does what its row says; a call that is due finds a place.
+use mathlib.Core.Path.{sym, subst}
 use denote.Ref.{now}
+use Rattle.paper.specs.Room.{Fits}
+use Rattle.paper.proofs.Effects.{event-fits}
 use Rattle.table_image.specs.Layout.{tableOf}
 use Rattle.call_events.proofs.Laws.{no-row, by-row, place}
 use borrow.Author.Needs.{needs}
@@ -28,6 +31,7 @@ returns-2 c =
       fits = record {
         within = a .pre .at .within;
         place = place t i (a .args .event) _ _ _ _ row (told .found .given .1) effect (a .pre .granted);
+        fits = subst Fits (sym effect) (event-fits _ _ (a .args .event));
       };
     }
 

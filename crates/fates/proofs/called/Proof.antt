@@ -9,16 +9,16 @@ use Rattle.fates.proofs.called.Tie as tie
 
 call-and-tell-requires : tie.Need-call-and-tell-requires
 call-and-tell-requires c κs =
-    let lent = c .before .before .before in
-    let start = lent .before .before .before .before .before in
-    record { told = start .pre .turn .told; long = search needs; room = search needs }
+    let lending = c .before .before .before .before .before .before in
+    let start = lending .before .before .before .before in
+    record { told = start .pre .turn .told; long = search needs; roomy = search needs; prints = search needs }
 
 returns : tie.Need-returns
 returns c =
-    let back = c .before .before .before .before in
+    let back = c .before .before .before .before .before .before in
     let made = back .before .before .before in
-    let lent = made .before .before .before .before in
-    let start = lent .before .before .before .before .before in
+    let lent = made .before .before .before .before .before in
+    let start = lent .before .before .before .before .before .before in
     let told = made .call-and-tell .ensures in
     let after = c .after-call .ensures in
     record {
@@ -39,6 +39,7 @@ called-spec =
     (λ c. search needs)
     call-and-tell-requires
     (λ c κs. search needs)
+    (λ c. search needs)
     (λ c. search needs)
     (λ c. search needs)
     (λ c. search needs)

@@ -11,11 +11,13 @@ use Rattle.fates.proofs.main.Tie as tie
 
 run-requires : tie.Need-run-requires
 run-requires c κs =
-    let titled = c .before .before .before .before .before .before in
+    let lending = c .before .before .before .before .before .before in
+    let titled = lending .before in
     let fresh = titled .before .before .before .before .before in
     record {
       told = subst (λ (l : List ℕ). Told l blank) (sym (fresh .make-fresh .ensures)) told-first;
       long = search needs;
+      roomy = search needs;
       reads = search needs;
       prints = search needs;
       fine = search needs;
@@ -32,6 +34,7 @@ main-spec =
     (λ c. search needs)
     (λ c κs. search needs)
     (λ c κs. search needs)
+    (λ c. search needs)
     (λ c. search needs)
     (λ c. search needs)
     (λ c. search needs)

@@ -5,12 +5,15 @@ use Rattle.fates.proofs.one_turn.Tie as tie
 
 turned-requires : tie.Need-turned-requires
 turned-requires c κs =
-    let drained = c .before .before .before .before .before .before in
+    let lending = c .before .before .before .before .before .before in
+    let drained = lending .before in
     let fed = drained .before .before .before .before .before .before in
-    let start = fed .before .before .before .before .before .before in
+    let lent = fed .before .before .before in
+    let start = lent .before .before .before .before in
     record {
       told = start .pre .told;
       long = search needs;
+      roomy = search needs;
       reads = search needs;
       prints = search needs;
       ready = search needs;
@@ -28,6 +31,7 @@ one-turn-spec =
     (λ c. search needs)
     (λ c. search needs)
     turned-requires
+    (λ c. search needs)
     (λ c. search needs)
     (λ c. search needs)
     (λ c. search needs)

@@ -11,14 +11,15 @@ use Rattle.fates.proofs.turned.Tie as tie
 returns : tie.Need-returns
 unfolding turnAfter afterTurn _⇒_∣_
 returns c =
-    let start = c .before .before .before .before .before .before in
+    let at-waits = c .before in
+    let start = at-waits .before .before .before .before .before .before in
     record {
-      is = rw (← c .before .waits .ensures, c .if1 .taken);
+      is = rw (← at-waits .waits .ensures, c .if1 .taken);
       fine = search needs;
       told = start .pre .told;
-      image = rw (← c .before .waits .ensures, c .if1 .taken);
-      entered = rw (← c .before .waits .ensures, c .if1 .taken);
-      stands = rw (← c .before .waits .ensures, c .if1 .taken);
+      image = rw (← at-waits .waits .ensures, c .if1 .taken);
+      entered = rw (← at-waits .waits .ensures, c .if1 .taken);
+      stands = rw (← at-waits .waits .ensures, c .if1 .taken);
     }
 
 returns-2 : tie.Need-returns-2
@@ -26,7 +27,8 @@ unfolding turnAfter afterTurn _⇒_∣_
 returns-2 c =
     let over = c .before in
     let goes = over .before .before in
-    let start = goes .before .before .before .before .before .before in
+    let asked = goes .before in
+    let start = asked .before .before .before .before .before .before in
     record {
       is = rw (← goes .before .waits .ensures, goes .if1 .left, ← over .before .is-over .ensures, over .if2 .taken) (c .stopped .ensures .is);
       fine = c .stopped .ensures .fine;
@@ -38,14 +40,15 @@ returns-2 c =
 
 called-requires : tie.Need-called-requires
 called-requires c κs =
-    let on = c .before .before .before in
+    let on = c .before .before .before .before in
     let waited = on .before .before .before in
-    let start = waited .before .before .before .before .before in
+    let start = waited .before .before .before .before .before .before in
     let more = not-over (start .args .t) (sym (on .before .is-over .ensures) ∙ on .if2 .left) in
     record {
       turn = record {
         told = start .pre .told;
         long = search needs;
+        roomy = search needs;
         reads = search needs;
         prints = search needs;
         ready = start .pre .ready;
@@ -56,8 +59,9 @@ called-requires c κs =
 returns-3 : tie.Need-returns-3
 unfolding turnAfter afterTurn _⇒_∣_
 returns-3 c =
-    let called = c .before .before .before .before .before .before in
-    let on = called .before .before .before .before in
+    let lending = c .before .before .before .before .before .before in
+    let called = lending .before .before in
+    let on = called .before .before .before .before .before in
     let goes = on .before .before in
     let left = called .called .ensures in
     record {
@@ -79,6 +83,7 @@ turned-spec =
     (λ c κs. search needs)
     returns-2
     called-requires
+    (λ c. search needs)
     (λ c. search needs)
     (λ c. search needs)
     (λ c. search needs)

@@ -9,16 +9,18 @@ use lib.Seq.{take-all}
 use borrow.Author.Needs.{needs}
 use Rattle.paper.specs.declared.Input.{Input}
 use Rattle.paper.specs.RecordsIn.{messageSize}
-use Rattle.paper.specs.Step.{roomSize}
+use Rattle.paper.specs.RecordsOut.{sizeOut}
+use Rattle.paper.specs.Room.{frameRoomSize}
 use Rattle.paper.proofs.Sizes.{size-within}
+use Rattle.replay_transcript.proofs.Laws.{kind-at}
 use Rattle.fates_book.specs.Lines.{lineAt, linesIn}
-use Rattle.fates_report.specs.Report.{lineText, indicationSize, perByte}
+use Rattle.fates_report.specs.Report.{lineText, perByte}
 use Rattle.fates_report.proofs.Laws.{said-most, StillTelling, all-telling, less-telling, none-telling}
 use Rattle.fates_report.proofs.tell_records.Statement.{statement}
 use Rattle.fates_report.proofs.tell_records.Tie as tie
 
 record ToTell (register₀ out₀ : List ℕ) (at : ℕ) (q : Input) (written register out : List ℕ) (e i : ℕ) : Type 0 where
-  near : i ≤ roomSize + messageSize
+  near : i ≤ frameRoomSize + messageSize
   few : e ≤ at + perByte * i
   long : length out ≡ length out₀
   whole : length register ≡ length register₀
@@ -28,7 +30,7 @@ abbrev Inv-loop : tie.InvT-loop
 Inv-loop register₀ out₀ at q written e₀ i₀ register out e i = ToTell register₀ out₀ at q written register out e i
 
 abbrev μ-loop : tie.MeasureT-loop
-μ-loop register₀ out₀ at q written e₀ i₀ register out e i = roomSize + messageSize - i
+μ-loop register₀ out₀ at q written e₀ i₀ register out e i = frameRoomSize + messageSize - i
 
 loop-holds : tie.Need-loop-holds Inv-loop μ-loop
 loop-holds c =
@@ -68,7 +70,8 @@ loop-again c =
     let all : take (length b - l .i) (drop (l .i) b) ≡ drop (l .i) b =
     take-all (length b - l .i) (drop (l .i) b) (omega (arith, length-drop (l .i) b)) in
     let this : line .result ≡ lineAt (a .q) (drop (l .i) b) = line .ensures ∙ ap (lineAt (a .q)) all in
-    let most : length (lineText (line .result) (l .register)) ≤ indicationSize = rw this (said-most (a .q) (drop (l .i) b) (l .register)) in
+    let most : length (lineText (line .result) (l .register)) ≤ perByte * sizeOut (getD b (l .i) 0) =
+    rw (this, ← kind-at b (l .i)) (said-most (a .q) (drop (l .i) b) (l .register)) in
     let sized = size-within (getD b (l .i) 0) in
     record {
       near = omega (arith, size .ensures, sized);

@@ -14,14 +14,14 @@ unfolding runOf _⇒_∣_
 returns c = rw (ne-eqb _ imageSize (c .if1 .taken))
 
 run-requires : tie.Need-run-requires
-run-requires c κs = ap soundImage (search needs) ∙ fresh-image
+run-requires c κs = record { sound = ap soundImage (search needs) ∙ fresh-image; roomy = search needs }
 
 returns-2 : tie.Need-returns-2
 unfolding runOf _⇒_∣_
 returns-2 c =
-    let ran = c .before .before in
-    let fresh = ran .before .before .before .before in
+    let ran = c .before .before .before in
+    let fresh = ran .before .before .before .before .before in
     rw (eq-eqb _ imageSize (fresh .before .before .if1 .left), ← fresh .make-fresh .ensures) (ran .run .ensures)
 
 pub inner-run-spec : {M : Type 1} → statement M
-inner-run-spec = tie.close (tie.spec returns (λ c κs. search needs) run-requires (λ c. search needs) returns-2)
+inner-run-spec = tie.close (tie.spec returns (λ c κs. search needs) (λ c. search needs) run-requires (λ c. search needs) returns-2)

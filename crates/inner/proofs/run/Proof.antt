@@ -17,39 +17,41 @@ use Rattle.inner.proofs.Laws.{Ahead, ahead-more, ahead-none}
 use Rattle.inner.proofs.run.Statement.{statement}
 use Rattle.inner.proofs.run.Tie as tie
 
-record Running (table₀ capture table : List ℕ) (refused at : ℕ) : Type 0 where
+record Running (table₀ capture room₀ table room : List ℕ) (refused at : ℕ) : Type 0 where
   within : at ≤ length capture
   few : refused ≤ at
   long : length table ≡ length table₀
+  roomy : length room ≡ length room₀
   sound : soundImage table ≡ true
   ahead : Ahead capture table refused at (runFrom (length capture) table₀ 0 capture)
 
 abbrev Inv-loop : tie.InvT-loop
-Inv-loop table₀ capture refused₀ at₀ table refused at = Running table₀ capture table refused at
+Inv-loop table₀ capture room₀ refused₀ at₀ table room refused at = Running table₀ capture room₀ table room refused at
 
 abbrev μ-loop : tie.MeasureT-loop
-μ-loop table₀ capture refused₀ at₀ table refused at = length capture - at
+μ-loop table₀ capture room₀ refused₀ at₀ table room refused at = length capture - at
 
 loop-holds : tie.Need-loop-holds Inv-loop μ-loop
 loop-holds c = record {
   within = search needs;
   few = search needs;
   long = search needs;
+  roomy = search needs;
   sound = search needs;
-  ahead = record { calls = length (now (c .before .before .args .capture)); enough = search needs; same = refl };
+  ahead = record { calls = length (now (c .before .before .before .args .capture)); enough = search needs; same = refl };
 }
 
 one-call-requires : tie.Need-one-call-requires Inv-loop μ-loop
-one-call-requires c κs = c .before .before .before .loop .inv .sound
+one-call-requires c κs = record { sound = c .before .before .before .before .loop .inv .sound; roomy = search needs }
 
 loop-again : tie.Need-loop-again Inv-loop μ-loop
 loop-again c =
     let counted = c .before in
-    let called = counted .before .before .before in
-    let in-turn = called .before .before .before in
+    let called = counted .before .before .before .before .before in
+    let in-turn = called .before .before .before .before in
     let turn = in-turn .before in
     let l = turn .loop in
-    let capture = now (turn .before .before .before .args .capture) in
+    let capture = now (turn .before .before .before .before .args .capture) in
     let at = l .at in
     let rest = drop at capture in
     let bytes = take (length capture - at) rest in
@@ -63,6 +65,7 @@ loop-again c =
       within = omega (arith, size, length-drop at capture, length-take (length capture - at) rest);
       few = omega (arith, size, flag, one-most (call .result));
       long = search needs;
+      roomy = search needs;
       sound = call .ensures .sound;
       ahead =
           rw (call .ensures .image, count, size .is)
@@ -72,7 +75,7 @@ loop-again c =
 returns : tie.Need-returns Inv-loop μ-loop
 returns c =
     let turn = c .before in
-    let capture = now (turn .before .before .before .args .capture) in
+    let capture = now (turn .before .before .before .before .args .capture) in
     ahead-none capture _ _ (turn .loop .at) _ (c .loop-test .left) (turn .loop .inv .ahead)
 
 pub run-spec : {M : Type 1} → statement M
@@ -91,5 +94,6 @@ run-spec =
     (λ c. search needs)
     (λ c. search needs)
     loop-again
+    (λ c. search needs)
     (λ c. search needs)
     returns)

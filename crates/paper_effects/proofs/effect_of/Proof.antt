@@ -78,6 +78,10 @@ returns-12 : tie.Need-returns-12
 unfolding effectOf
 returns-12 c = rw (c .before .before .before .enum-told6 .given .1, c .acting11 .ensures, c .before .ok6 .ensures, c .before .before .onward6 .ensures)
 
+returns-13 : tie.Need-returns-13
+unfolding effectOf
+returns-13 c = rw (c .before .before .before .v7 .given .1, c .acting12 .ensures, c .before .unchanged3 .ensures)
+
 pub effect-of-spec : {M : Type 1} → statement M
 effect-of-spec =
     tie.close
@@ -127,6 +131,9 @@ effect-of-spec =
     (λ c κs. search needs)
     (λ c κs. search needs)
     (λ c κs. search needs)
+    (λ c. search needs)
+    (λ c κs. search needs)
+    (λ c κs. search needs)
     returns
     returns-2
     returns-3
@@ -138,4 +145,5 @@ effect-of-spec =
     returns-9
     returns-10
     returns-11
-    returns-12)
+    returns-12
+    returns-13)

@@ -60,6 +60,9 @@ returns-15 c = simp (c .enum-told10 .given .1)
 returns-16 : tie.Need-returns-16
 returns-16 c = simp (c .enum-told11 .given .1)
 
+returns-17 : tie.Need-returns-17
+returns-17 c = simp (c .enum-told12 .given .1)
+
 pub request-course-spec : {M : Type 1} → statement M
 request-course-spec =
     tie.close
@@ -73,6 +76,7 @@ request-course-spec =
     (λ c. search needs)
     (λ c. search needs)
     returns
+    (λ c. search needs)
     (λ c. search needs)
     (λ c. search needs)
     (λ c. search needs)
@@ -92,4 +96,5 @@ request-course-spec =
     returns-13
     returns-14
     returns-15
-    returns-16)
+    returns-16
+    returns-17)

@@ -8,9 +8,10 @@ use Rattle.replay.proofs.called.Tie as tie
 
 returns : tie.Need-returns
 returns c =
-    let made = c .before .before .before .before .before in
-    let lent = made .before .before .before .before in
-    let a = lent .before .before .before .before .args in
+    let lending = c .before .before .before .before .before .before in
+    let made = lending .before in
+    let lent = made .before .before .before .before .before in
+    let a = lent .before .before .before .before .before .args in
     let told = made .replay-call .ensures in
     let after = c .after-call .ensures in
     record {
@@ -31,6 +32,7 @@ called-spec =
     (λ c. search needs)
     (λ c κs. search needs)
     (λ c κs. search needs)
+    (λ c. search needs)
     (λ c. search needs)
     (λ c. search needs)
     returns)

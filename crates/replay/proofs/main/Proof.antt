@@ -8,10 +8,11 @@ use Rattle.replay.proofs.main.Tie as tie
 
 run-requires : tie.Need-run-requires
 run-requires c κs =
-    let titled = c .before .before .before .before .before in
+    let titled = c .before .before .before .before .before .before in
     let fresh = titled .before .before .before .before .before in
     record {
       sound = ap soundImage (fresh .make-fresh .ensures) ∙ fresh-image;
+      roomy = search needs;
       reads = search needs;
       prints = search needs;
       fine = search needs;
@@ -28,6 +29,7 @@ main-spec =
     (λ c. search needs)
     (λ c κs. search needs)
     (λ c κs. search needs)
+    (λ c. search needs)
     (λ c. search needs)
     (λ c. search needs)
     (λ c. search needs)

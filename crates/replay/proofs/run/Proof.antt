@@ -10,17 +10,27 @@ use Rattle.replay.specs.Printed.{Kept}
 use Rattle.replay.proofs.run.Statement.{statement}
 use Rattle.replay.proofs.run.Tie as tie
 
-record Turning (table₀ input₀ output₀ table input output : List ℕ) (t : Turn) : Type 0 where
+record Turning (table₀ room₀ input₀ output₀ table room input output : List ℕ) (t : Turn) : Type 0 where
   kept : Kept table t
   image : length table ≡ length table₀
+  roomy : length room ≡ length room₀
   reads : length input ≡ length input₀
   prints : length output ≡ length output₀
 
 abbrev Inv-loop : tie.InvT-loop
-Inv-loop table₀ input₀ output₀ t₀ left₀ table input output t left = Turning table₀ input₀ output₀ table input output t
+Inv-loop table₀ room₀ input₀ output₀ t₀ left₀ table room input output t left = Turning table₀ room₀ input₀ output₀ table room input output t
 
 abbrev μ-loop : tie.MeasureT-loop
-μ-loop table₀ input₀ output₀ t₀ left₀ table input output t left = left
+μ-loop table₀ room₀ input₀ output₀ t₀ left₀ table room input output t left = left
+
+loop-again : tie.Need-loop-again Inv-loop μ-loop
+loop-again c = record {
+  kept = search needs;
+  image = search needs;
+  roomy = search needs;
+  reads = search needs;
+  prints = search needs;
+}
 
 pub run-spec : {M : Type 1} → statement M
 run-spec =
@@ -33,9 +43,11 @@ run-spec =
     (λ c. search needs)
     (λ c. search needs)
     (λ c. search needs)
+    (λ c. search needs)
     (λ c κs. search needs)
     (λ c. search needs)
     (λ c. omega arith)
+    loop-again
     (λ c. search needs)
     (λ c. search needs)
     (λ c. search needs)

@@ -33,9 +33,9 @@ returns-2 c =
 
 called-requires : tie.Need-called-requires
 called-requires c κs =
-    let on = c .before .before in
+    let on = c .before .before .before in
     let waited = on .before .before .before in
-    let start = waited .before .before .before .before in
+    let start = waited .before .before .before .before .before in
     let more = not-over (start .args .t) (sym (on .before .is-over .ensures) ∙ on .if2 .left) in
     record {
       turn = search needs;
@@ -45,8 +45,8 @@ called-requires c κs =
 returns-3 : tie.Need-returns-3
 unfolding turnAfter afterTurn _⇒_∣_
 returns-3 c =
-    let called = c .before .before .before .before in
-    let on = called .before .before .before in
+    let called = c .before .before .before .before .before .before in
+    let on = called .before .before .before .before in
     let goes = on .before .before in
     let left = called .called .ensures in
     record {
@@ -67,6 +67,7 @@ turned-spec =
     (λ c κs. search needs)
     returns-2
     called-requires
+    (λ c. search needs)
     (λ c. search needs)
     (λ c. search needs)
     returns-3)

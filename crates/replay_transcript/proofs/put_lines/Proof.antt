@@ -1,21 +1,21 @@
 -- Each turn writes the line of the record where the turn begins, and goes on behind it: what is still unwritten leads, from where
--- the writing stands, to the same text. A record out has two bytes at least, so a room's records have few lines.
-use Prim.Native.Nat.{ℕ, zero, suc, _+_, _*_, _/_, _-_, _≤_, _<_}
+-- the writing stands, to the same text. A line takes so much for each byte of its record, so those of a room's records fit.
+use Prim.Native.Nat.{ℕ, zero, suc, _+_, _*_, _-_, _≤_, _<_}
 use native.Mathlib.Omega.{arith}
 use mathlib.Core.List.{List, _++_}
 use denote.Ref.{now}
 use borrow.Author.Needs.{needs}
-use mathlib.Core.Path.{_≡_, refl}
-use lib.ListN.{length, getD, take, drop, length-drop, length-take}
+use mathlib.Core.Path.{_≡_, refl, ap}
+use lib.ListN.{length, getD, take, drop, length-drop}
 use lib.Seq.{take-all}
 use Rattle.octets.specs.Writing.{Wrote}
 use Rattle.octets.proofs.Writing.{Unwritten, all-unwritten, less-unwritten, none-unwritten, wrote-most, wrote-of}
 use Rattle.paper.specs.RecordsIn.{messageSize}
 use Rattle.paper.specs.RecordsOut.{sizeOut}
-use Rattle.paper.specs.Step.{roomSize}
+use Rattle.paper.specs.Room.{frameRoomSize}
 use Rattle.paper.proofs.Sizes.{size-within}
-use Rattle.replay_transcript.specs.Transcript.{recordLine, recordLines, allLines, recordLineSize}
-use Rattle.replay_transcript.proofs.Laws.{lines-end, lines-next}
+use Rattle.replay_transcript.specs.Transcript.{recordLine, recordLines, allLines, perByte}
+use Rattle.replay_transcript.proofs.Laws.{kind-at, lines-end, lines-next}
 use Rattle.replay_transcript.proofs.put_lines.Statement.{statement}
 use Rattle.replay_transcript.proofs.put_lines.Tie as tie
 
@@ -42,14 +42,13 @@ next-of out₀ at n rs out e i (suc k) size e' out' h f a u s w =
       rest = less-unwritten line rest f u all w;
     }
 
--- what a line takes for each byte of its record
-abbrev perByte : ℕ
-perByte = recordLineSize / 2
+-- the bytes from a place on, as they are lent
+lent-whole : (rs : List ℕ) (i : ℕ) → take (length rs - i) (drop i rs) ≡ drop i rs
+lent-whole rs i = take-all (length rs - i) (drop i rs) (omega (arith, length-drop i rs))
 
 record Turned (out₀ : List ℕ) (at n : ℕ) (rs out : List ℕ) (e i : ℕ) : Type 0 where
-  near : i < roomSize + messageSize
+  near : i < frameRoomSize + messageSize
   few : e ≤ at + perByte * i
-  within : e ≤ at + perByte * (roomSize - 1) + recordLineSize
   long : length out ≡ length out₀
   left : LinesLeft out₀ at n rs out e i
 
@@ -57,7 +56,7 @@ abbrev Inv-loop : tie.InvT-loop
 Inv-loop out₀ at n rs e₀ i₀ out e i = Turned out₀ at n rs out e i
 
 abbrev μ-loop : tie.MeasureT-loop
-μ-loop out₀ at n rs e₀ i₀ out e i = roomSize + messageSize - i
+μ-loop out₀ at n rs e₀ i₀ out e i = frameRoomSize + messageSize - i
 
 loop-holds : tie.Need-loop-holds Inv-loop μ-loop
 loop-holds c =
@@ -66,7 +65,6 @@ loop-holds c =
     record {
       near = omega arith;
       few = omega arith;
-      within = omega arith;
       long = refl;
       left = record { k = length rs; enough = omega arith; rest = all-unwritten (now (a .out)) (a .at) (allLines (a .n) rs) };
     }
@@ -76,10 +74,7 @@ put-record-requires c κs =
     let turn = c .before .before .before in
     let l = turn .loop in
     let rs = now (turn .before .before .before .args .rs) in
-    record {
-      short = omega (arith, length-take (length rs - l .i) (drop (l .i) rs), length-drop (l .i) rs);
-      room = omega (arith, l .inv .few, l .inv .long);
-    }
+    rw (lent-whole rs (l .i), kind-at rs (l .i)) (omega (arith, size-within (getD rs (l .i) 0), l .inv .few, l .inv .long))
 
 add-i : tie.Need-add-i Inv-loop μ-loop
 add-i c =
@@ -102,16 +97,13 @@ loop-again c =
     let a = turn .before .before .before .args in
     let l = turn .loop in
     let rs = now (a .rs) in
-    let whole : take (length rs - l .i) (drop (l .i) rs) ≡ drop (l .i) rs =
-    take-all (length rs - l .i) (drop (l .i) rs) (omega (arith, length-drop (l .i) rs)) in
-    let line = rw whole at (wrote-line .put-record .ensures) in
+    let line = rw (lent-whole rs (l .i)) at (wrote-line .put-record .ensures) in
     let left = l .inv .left in
     let size = c .size-out .ensures in
     let sized = size-within (getD rs (l .i) 0) in
     record {
       near = omega (arith, size, sized);
-      few = omega (arith, size, sized, line .few, l .inv .few);
-      within = omega (arith, line .few, l .inv .few);
+      few = omega (arith, size, ap sizeOut (kind-at rs (l .i)), line .few, l .inv .few);
       long = search needs;
       left =
           next-of (now (a .out)) (a .at) (a .n) rs (l .out) (l .e) (l .i) (left .k) (c .size-out .result) (wrote-line .put-record .result)

@@ -9,7 +9,7 @@ use lib.ListN.{length, take, drop, length-take, length-drop, replicate}
 use borrow.Author.Needs.{needs}
 use Rattle.octets.specs.Runs.{part, paste}
 use Rattle.octets.proofs.Runs.{paste-begins}
-use Rattle.paper.specs.RecordsIn.{messageSize}
+use Rattle.paper.specs.RecordsIn.{pairSize}
 use Rattle.turns.proofs.shift.Statement.{statement}
 use Rattle.turns.proofs.shift.Tie as tie
 
@@ -20,7 +20,7 @@ returns c =
     let a = kept .before .before .before .before .before .args in
     let buf = now (a .buf) in
     let rest = kept .put-bytes in
-    let blank : List ℕ = replicate messageSize 0 in
+    let blank : List ℕ = replicate pairSize 0 in
     let w : List ℕ = part buf (a .from) (a .n) in
     let size : length w ≡ a .n = omega (arith, length-take (a .n) (drop (a .from) buf), length-drop (a .from) buf) in
     let held : rest .last .0 ≡ paste blank 0 w =

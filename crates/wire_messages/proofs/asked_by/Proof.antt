@@ -94,17 +94,27 @@ returns-11 c =
 
 returns-12 : tie.Need-returns-12
 unfolding askedBy
-returns-12 c = simp (← c .before .before .before .code-in .ensures, ← c .before .before .primitive-of .ensures, c .enum-told12 .given .1)
+returns-12 c =
+    let known = c .before in
+    let named = known .before .before in
+    let read = named .before in
+    simp (← read .code-in .ensures, ← named .primitive-of .ensures, known .enum-told12 .given .1) (c .unitdata-in .ensures)
 
 returns-13 : tie.Need-returns-13
 unfolding askedBy
 returns-13 c = simp (← c .before .before .before .code-in .ensures, ← c .before .before .primitive-of .ensures, c .enum-told13 .given .1)
+
+returns-14 : tie.Need-returns-14
+unfolding askedBy
+returns-14 c = simp (← c .before .before .before .code-in .ensures, ← c .before .before .primitive-of .ensures, c .enum-told14 .given .1)
 
 pub asked-by-spec : {M : Type 1} → statement M
 asked-by-spec =
     tie.close
     (tie.spec
     (λ c κs. search needs)
+    (λ c κs. search needs)
+    (λ c. search needs)
     (λ c κs. search needs)
     (λ c. search needs)
     (λ c κs. search needs)
@@ -142,4 +152,5 @@ asked-by-spec =
     returns-10
     returns-11
     returns-12
-    returns-13)
+    returns-13
+    returns-14)

@@ -1,4 +1,4 @@
--- The codes that are tested are the eight of step 1, and what is none of them is in their list at no place.
+-- The codes that are tested are the seven of step 1, and what is none of them is in their list at no place.
 use borrow.Author.Tests.{ne-eqb}
 use Rattle.ledger.specs.Choice.{_⇒_∣_}
 use Rattle.paper.specs.Messages.{otherCode}
@@ -35,11 +35,7 @@ returns-7 c = rw (c .match .keys7)
 
 returns-8 : tie.Need-returns-8
 unfolding otherCode _⇒_∣_
-returns-8 c = rw (c .match .keys8)
-
-returns-9 : tie.Need-returns-9
-unfolding otherCode _⇒_∣_
-returns-9 c =
+returns-8 c =
     let not-20 = c .match .rest in
     let not-1f = not-20 .0 in
     let not-1e = not-1f .0 in
@@ -47,9 +43,7 @@ returns-9 c =
     let not-1b = not-1d .0 in
     let not-15 = not-1b .0 in
     let not-0a = not-15 .0 in
-    let not-07 = not-0a .0 in
     simp (
-      ne-eqb _ 7 (not-07 .1),
       ne-eqb _ 10 (not-0a .1),
       ne-eqb _ 21 (not-15 .1),
       ne-eqb _ 27 (not-1b .1),
@@ -70,5 +64,4 @@ other-code-spec =
     returns-5
     returns-6
     returns-7
-    returns-8
-    returns-9)
+    returns-8)

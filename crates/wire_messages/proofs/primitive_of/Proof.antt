@@ -52,8 +52,13 @@ returns-11 c = rw (c .match .keys11)
 
 returns-12 : tie.Need-returns-12
 unfolding primitiveOf _⇒_∣_
-returns-12 c =
-    let not-reset-res = c .before .match .rest in
+returns-12 c = rw (c .match .keys12)
+
+returns-13 : tie.Need-returns-13
+unfolding primitiveOf _⇒_∣_
+returns-13 c =
+    let not-unitdata = c .before .match .rest in
+    let not-reset-res = not-unitdata .0 in
     let not-reset = not-reset-res .0 in
     let not-disconnect = not-reset .0 in
     let not-token = not-disconnect .0 in
@@ -76,6 +81,7 @@ returns-12 c =
       ne-eqb _ 19 (not-disconnect .1),
       ne-eqb _ 23 (not-reset .1),
       ne-eqb _ 25 (not-reset-res .1),
+      ne-eqb _ 7 (not-unitdata .1),
     )
     (c .other-code .ensures)
 
@@ -95,4 +101,5 @@ primitive-of-spec =
     returns-9
     returns-10
     returns-11
-    returns-12)
+    returns-12
+    returns-13)

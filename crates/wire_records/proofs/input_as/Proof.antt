@@ -1,10 +1,13 @@
--- Each kind's values are read where the paper has them; a whole message is long enough for the test of its padding.
+-- Each kind's values are read where the paper has them; a whole message, and a whole frame, is long enough for the tests of its padding.
 use borrow.Author.Needs.{needs}
 use Rattle.wire_records.proofs.input_as.Statement.{statement}
 use Rattle.wire_records.proofs.input_as.Tie as tie
 
 read-message-requires : tie.Need-read-message-requires
 read-message-requires c κs = rw (c .enum-told4 .given .1) at (c .before .before .before .before .pre)
+
+read-frame-requires : tie.Need-read-frame-requires
+read-frame-requires c κs = rw (c .enum-told12 .given .1) at (c .before .before .before .before .pre)
 
 returns : tie.Need-returns
 returns c = rw (c .before .enum-told .given .1, c .number32-at .ensures)
@@ -37,6 +40,9 @@ returns-9 c = rw (c .before .enum-told9 .given .1, c .number32-at6 .ensures, c .
 returns-10 : tie.Need-returns-10
 returns-10 c = rw (c .enum-told10 .given .1, c .before .before .byte-at .ensures)
 
+returns-12 : tie.Need-returns-12
+returns-12 c = rw (c .before .enum-told12 .given .1) (c .read-frame .ensures)
+
 pub input-as-spec : {M : Type 1} → statement M
 input-as-spec =
     tie.close
@@ -61,6 +67,9 @@ input-as-spec =
     (λ c κs. search needs)
     (λ c. search needs)
     (λ c. search needs)
+    (λ c. search needs)
+    read-frame-requires
+    (λ c. search needs)
     returns
     (λ c. search needs)
     returns-3
@@ -71,4 +80,6 @@ input-as-spec =
     returns-8
     returns-9
     returns-10
+    (λ c. search needs)
+    returns-12
     (λ c. search needs))

@@ -51,8 +51,18 @@ returns-11 c = rw (c .match .keys11)
 
 returns-12 : tie.Need-returns-12
 unfolding kindOf _⇒_∣_
-returns-12 c =
-    let not-S = c .match .rest in
+returns-12 c = rw (c .match .keys12)
+
+returns-13 : tie.Need-returns-13
+unfolding kindOf _⇒_∣_
+returns-13 c = rw (c .match .keys13)
+
+returns-14 : tie.Need-returns-14
+unfolding kindOf _⇒_∣_
+returns-14 c =
+    let not-f = c .match .rest in
+    let not-M = not-f .0 in
+    let not-S = not-M .0 in
     let not-R = not-S .0 in
     let not-W = not-R .0 in
     let not-D = not-W .0 in
@@ -75,6 +85,8 @@ returns-12 c =
       ne-eqb _ 87 (not-W .1),
       ne-eqb _ 82 (not-R .1),
       ne-eqb _ 83 (not-S .1),
+      ne-eqb _ 77 (not-M .1),
+      ne-eqb _ 102 (not-f .1),
     )
 
 pub kind-of-spec : {M : Type 1} → statement M
@@ -92,4 +104,6 @@ kind-of-spec =
     returns-9
     returns-10
     returns-11
-    returns-12)
+    returns-12
+    returns-13
+    returns-14)

@@ -11,8 +11,8 @@ use Rattle.octets.specs.Numbers.{be16}
 use Rattle.octets.specs.Runs.{paste}
 use Rattle.octets.specs.Writing.{WroteMost}
 use Rattle.octets.proofs.Writing.{wrote-put, wrote-most}
-use Rattle.paper.specs.Base.{macSize}
-use Rattle.paper.specs.Replies.{sapBytes, addressOf, mostAddress}
+use Rattle.paper.specs.Base.{macSize, mostAddress}
+use Rattle.paper.specs.Replies.{sapBytes, addressOf}
 use Rattle.wire_replies.proofs.put_address.Statement.{statement}
 use Rattle.wire_replies.proofs.put_address.Tie as tie
 

@@ -35,10 +35,18 @@ returns-5 c =
     let known = wrote .before .before in
     rw (known .enum-told3 .given .1) (wrote-most (omega arith) (wrote .put-start3 .ensures))
 
+returns-6 : tie.Need-returns-6
+returns-6 c =
+    let wrote = c .before .before in
+    let known = wrote .before .before .before in
+    rw (known .o3 .given .1) (wrote-most (omega arith) (wrote .put-unitdata-start .ensures))
+
 pub put-order-spec : {M : Type 1} → statement M
 put-order-spec =
     tie.close
     (tie.spec
+    (λ c. search needs)
+    (λ c κs. search needs)
     (λ c. search needs)
     (λ c κs. search needs)
     (λ c. search needs)
@@ -58,4 +66,6 @@ put-order-spec =
     (λ c. search needs)
     returns-4
     (λ c. search needs)
-    returns-5)
+    returns-5
+    (λ c. search needs)
+    returns-6)

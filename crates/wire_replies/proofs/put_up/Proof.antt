@@ -72,12 +72,22 @@ returns-10 c =
     let known = wrote .before .before .before in
     rw (known .enum-told2 .given .1) (wrote .put-message8 .ensures)
 
+returns-11 : tie.Need-returns-11
+unfolding contentOf
+returns-11 c =
+    let wrote = c .before .before in
+    let known = wrote .before .before .before .before in
+    rw (known .reply9 .given .1) (wrote .put-message9 .ensures)
+
 pub put-up-spec : {M : Type 1} → statement M
 put-up-spec =
     tie.close
     (tie.spec
     (λ c. search needs)
     (λ c κs. search needs)
+    (λ c. search needs)
+    (λ c κs. search needs)
+    (λ c. search needs)
     (λ c. search needs)
     (λ c κs. search needs)
     (λ c. search needs)
@@ -123,4 +133,6 @@ put-up-spec =
     (λ c. search needs)
     returns-9
     (λ c. search needs)
-    returns-10)
+    returns-10
+    (λ c. search needs)
+    returns-11)

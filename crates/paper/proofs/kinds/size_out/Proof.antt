@@ -27,8 +27,39 @@ returns-4 c =
 returns-5 : tie.Need-returns-5
 unfolding sizeOut _⇒_∣_
 returns-5 c =
-    let m = c .before .before .before in
-    rw (← m .before .is-message .ensures, m .if1 .left, ne-eqb _ _ (c .before .before .if2 .left), ne-eqb _ _ (c .before .if3 .left), ne-eqb _ _ (c .if4 .left))
+    let d = c .before .before in
+    let m = d .before .before in
+    rw (← m .before .is-message .ensures, m .if1 .left, ne-eqb _ _ (d .before .if2 .left), ne-eqb _ _ (d .if3 .left), ne-eqb _ _ (c .before .if4 .left), eq-eqb _ _ (c .if5 .taken))
+
+returns-6 : tie.Need-returns-6
+unfolding sizeOut _⇒_∣_
+returns-6 c =
+    let d = c .before .before .before in
+    let m = d .before .before in
+    rw (
+      ← m .before .is-message .ensures,
+      m .if1 .left,
+      ne-eqb _ _ (d .before .if2 .left),
+      ne-eqb _ _ (d .if3 .left),
+      ne-eqb _ _ (c .before .before .if4 .left),
+      ne-eqb _ _ (c .before .if5 .left),
+      eq-eqb _ _ (c .if6 .taken),
+    )
+
+returns-7 : tie.Need-returns-7
+unfolding sizeOut _⇒_∣_
+returns-7 c =
+    let d = c .before .before .before in
+    let m = d .before .before in
+    rw (
+      ← m .before .is-message .ensures,
+      m .if1 .left,
+      ne-eqb _ _ (d .before .if2 .left),
+      ne-eqb _ _ (d .if3 .left),
+      ne-eqb _ _ (c .before .before .if4 .left),
+      ne-eqb _ _ (c .before .if5 .left),
+      ne-eqb _ _ (c .if6 .left),
+    )
 
 pub size-out-spec : {M : Type 1} → statement M
-size-out-spec = tie.close (tie.spec (λ c κs. search needs) returns returns-2 returns-3 returns-4 returns-5)
+size-out-spec = tie.close (tie.spec (λ c κs. search needs) returns returns-2 returns-3 returns-4 returns-5 returns-6 returns-7)
