@@ -43,6 +43,9 @@ extern "C" {
 /* The room that a call needs, however little it writes. A longer room is served too. */
 #define KUNGTHEVI_ROOM_SIZE 128
 
+/* The room that a frame, an 'f', needs. No other call needs so much. */
+#define KUNGTHEVI_FRAME_ROOM_SIZE 4096
+
 /*
  * Makes a fresh table: no PPA, no open stream, correlation numbers from 1.
  * Returns 0. Where table_len is not KUNGTHEVI_TABLE_SIZE it returns
@@ -53,32 +56,58 @@ uint32_t kungthevi_fresh(uint8_t *table, size_t table_len);
 /*
  * One call: reads the one record at the start of the lent bytes, changes the
  * table and writes the records out into the room, right behind one another from
- * its start. The room's other bytes stay. Bytes behind the record are not read.
+ * its start. The room's other bytes stay.
+ *
+ * Bytes behind the record are not read, with one exception: a message of code
+ * 0x07 (DL_UNITDATA_REQ) with L 4 to 96 is a datagram, and the 'M' of the same
+ * stream right behind it is its data. One call reads the two, 166 bytes, so lend
+ * them together. The message without its 'M' is refused, and so is an 'M' by
+ * itself.
+ *
+ * A frame whose called MAC is that of its PPA comes to each stream of the PPA
+ * that is bound in mode 2 to the called SAP, or type, in that form. If there is
+ * none, or the MAC is another, it is served all the same and writes nothing.
  *
  * Records in, by their first byte; numbers are big-endian:
  *   'G' add PPA          number 4, MAC 6
  *   'O' open             nothing
  *   'X' close            stream 1
  *   'P', 'C' message     stream 1, length L 1, 96 bytes of block, zero past L
+ *   'M' data             stream 1, length 1, 64 bytes of data, zero past the length
  *   'I' call arrives     PPA 4, called 7, calling 7
  *   'A' peer accepted    stream 1, address 7
  *   'D' peer gone        stream 1, reason 4
  *   'W' call withdrawn   stream 1, correlation 4, reason 4
  *   'R' peer reset       stream 1, reason 4
  *   'S' reset confirmed  stream 1
+ *   'f' frame arrives    PPA 4, address length 1, called 8, calling 8, data length 1,
+ *                        64 bytes of data; addresses and data zero past their length
  * Records out:
  *   'P', 'C' message up  stream 1, length L 1, 96 bytes of block, zero past L
+ *   'M' data             as in; behind each 'u' and each message up of code 0x08
+ *                        (DL_UNITDATA_IND)
  *   'F' flush queues     stream 1
  *   'c' connect          stream 1, called 7
  *   'a' accept           carrying stream 1, correlation 4
  *   'd' disconnect       stream 1, correlation 4, reason 4
  *   'r' reset            stream 1
  *   's' reset answer     stream 1
+ *   'u' datagram         stream 1, address length 1, address 8, zero past the length
  *
  * The number returned is taken apart by the macros below it. A refused call
  * writes nothing: table and room are as they were. A message that breaks a rule
  * of DLPI is not refused: it is served, and its answer is a DL_ERROR_ACK with
- * one of the error codes below.
+ * one of the error codes below, or for a datagram with L 20 or more a
+ * DL_UDERROR_IND.
+ *
+ * A datagram of two bytes from stream 0, which is bound to a SAP in mode 2, to SAP
+ * 0x84 of 02:00:00:00:00:02; the address stands at offset 20 of the block:
+ *
+ *     const uint8_t datagram[166] = {
+ *         'P', 0, 27, 0, 0, 0, 0x07, 0, 0, 0, 7, 0, 0, 0, 20,
+ *         [3 + 20] = 0x02, 0, 0, 0, 0, 0x02, 0x84,
+ *         [99] = 'M', 0, 2, 'h', 'i'
+ *     };
  */
 uint32_t kungthevi_call(uint8_t *table, size_t table_len,
                         const uint8_t *record, size_t record_len,
@@ -97,9 +126,12 @@ uint32_t kungthevi_call(uint8_t *table, size_t table_len,
 #define KUNGTHEVI_STREAM(answer) (KUNGTHEVI_TOKEN(answer) - 1)
 
 /*
- * How far reading goes on: the size of the record at the start of the lent
- * bytes, its kind included, or 0 where reading ends there (no bytes, unknown
- * kind or cut body). A record of that size may still be refused.
+ * How far reading goes on: the size of what one call reads at the start of the
+ * lent bytes, or 0 where reading ends there (no bytes, unknown kind or cut
+ * body). That is the record, its kind included: 99 for a message, or 166 where
+ * it is a datagram's and the whole 'M' of the same stream stands right behind
+ * it. So who reads a capture in parts has 166 bytes at hand, or all that are
+ * left, before asking. A record of that size may still be refused.
  */
 uint32_t kungthevi_record_size(const uint8_t *record, size_t record_len);
 
@@ -107,26 +139,31 @@ uint32_t kungthevi_record_size(const uint8_t *record, size_t record_len);
  * The refusal numbers. Where several apply, the first in the order 16, 10, 1,
  * 2, 5, 4, then the others; of 7 and 8, 7.
  */
-#define KUNGTHEVI_LITTLE_ROOM   1  /* room under KUNGTHEVI_ROOM_SIZE */
+#define KUNGTHEVI_LITTLE_ROOM   1  /* room under KUNGTHEVI_ROOM_SIZE, for an 'f' under KUNGTHEVI_FRAME_ROOM_SIZE */
 #define KUNGTHEVI_NOT_OPEN      2  /* stream over 15, or not open */
 #define KUNGTHEVI_ALL_OPEN      3  /* open, and all 16 streams are open */
 #define KUNGTHEVI_NO_CODE       4  /* message with L under 4 */
-#define KUNGTHEVI_OVER_LONG     5  /* message with L over 96 */
+#define KUNGTHEVI_OVER_LONG     5  /* message with L over 96; data over 64 of a datagram or an 'f' */
 #define KUNGTHEVI_UNEXPECTED    6  /* 'A', 'D', 'R' or 'S' in a state without a row for it;
                                       'W' whose number is not open on that stream */
 #define KUNGTHEVI_NOBODY_THERE  7  /* 'I' whose PPA is unknown, whose called MAC is not that PPA's,
-                                      or for whose PPA and SAP nobody listens */
+                                      or for whose PPA and SAP nobody listens; 'f' whose PPA is unknown */
 #define KUNGTHEVI_BUSY          8  /* 'I' whose listener is neither idle nor ringing, or has its granted
                                       count open */
 #define KUNGTHEVI_NO_NEW_PPA    9  /* 'G' after any opening, or a ninth PPA, or a number already there */
-#define KUNGTHEVI_NOT_A_RECORD 10  /* no bytes, unknown kind or cut body, or nonzero bytes of a block past L */
+#define KUNGTHEVI_NOT_A_RECORD 10  /* no bytes, unknown kind or cut body; nonzero bytes past a length; a datagram
+                                      without its 'M', or an 'M' by itself; 'f' whose address length is not 7 or 8 */
 #define KUNGTHEVI_NOT_SOUND    16  /* a table of another length, or whose bytes are not those of a sound table */
 
-/* The error codes of DL_ERROR_ACK: the number in bytes 8 to 11 of its block. */
+/*
+ * The error codes. A DL_ERROR_ACK (code 0x05) has one in bytes 8 to 11 of its
+ * block. A DL_UDERROR_IND (code 0x09) has it in bytes 16 to 19, and there it is
+ * DL_BADADDR or DL_OUTSTATE.
+ */
 #define KUNGTHEVI_DL_BADADDR      0x01  /* address or SAP not allowed */
 #define KUNGTHEVI_DL_ACCESS       0x02  /* the carrying stream is of another PPA or connectionless */
-#define KUNGTHEVI_DL_OUTSTATE     0x03  /* no row for this message in the stream's state, or an accept offers a stream
-                                           that is not idle */
+#define KUNGTHEVI_DL_OUTSTATE     0x03  /* no row for this message in the stream's state and mode, or an accept offers a
+                                           stream that is not idle */
 #define KUNGTHEVI_DL_BADCORR      0x05  /* the correlation number is not open here */
 #define KUNGTHEVI_DL_UNSUPPORTED  0x07  /* mode, connection management or type not supported */
 #define KUNGTHEVI_DL_BADPPA       0x08  /* unknown PPA */

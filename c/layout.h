@@ -15,7 +15,8 @@ enum {
     PPAS = 8,
     INDICATIONS = 8, /* open ones that a stream holds at most */
     MAC_SIZE = 6,
-    ADDRESS_SIZE = MAC_SIZE + 1, /* a MAC, then one byte of SAP */
+    ADDRESS_SIZE = MAC_SIZE + 1,      /* a MAC, then one byte of SAP */
+    TYPE_ADDRESS_SIZE = MAC_SIZE + 2, /* a MAC, then two bytes of Ethernet type: the longest address */
     NUMBER_SIZE = 4 /* of a PPA's number and of a correlation number */
 };
 
@@ -57,13 +58,23 @@ static_assert(AT_SLOTS + STREAMS * SLOT_SIZE == KUNGTHEVI_TABLE_SIZE, "the image
 /* Offsets in a record. */
 enum {
     AT_KIND = 0,
-    AT_STREAM = 1, /* in every kind except G, O and I */
-    AT_LENGTH = 2, /* of a message */
+    AT_STREAM = 1, /* in every kind except G, O, I and f */
+    AT_LENGTH = 2, /* of a message's block, and of an M's data */
     AT_BLOCK = 3,
     BLOCK_SIZE = 96,
-    LONGEST_RECORD = AT_BLOCK + BLOCK_SIZE /* a message; every other kind is shorter */
+    AT_DATA = 3, /* in an M */
+    DATA_SIZE = 64
+};
+
+/* Sizes of records, and of what one call reads at most: a message of code 0x07 and its M. */
+enum {
+    LONGEST_RECORD = AT_BLOCK + BLOCK_SIZE, /* a message; every other kind is shorter */
+    DATA_RECORD_SIZE = AT_DATA + DATA_SIZE,
+    FRAME_SIZE = 1 + NUMBER_SIZE + 1 + TYPE_ADDRESS_SIZE + TYPE_ADDRESS_SIZE + 1 + DATA_SIZE,
+    LONGEST_CALL = LONGEST_RECORD + DATA_RECORD_SIZE
 };
 
 static_assert(LONGEST_RECORD <= KUNGTHEVI_ROOM_SIZE, "the room holds any record");
+static_assert(STREAMS * LONGEST_CALL <= KUNGTHEVI_FRAME_ROOM_SIZE, "a frame's room holds one for each stream");
 
 #endif

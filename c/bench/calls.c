@@ -27,6 +27,10 @@ static const struct subject subjects[] = {
     { "errors, 1 stream", fill_errors, 1 },
     { "connections, 5 streams", fill_connections, 5 },
     { "ringing, 16 streams", fill_ringing, 16 },
+    { "datagrams, 1 stream", fill_datagrams, 1 },
+    { "datagrams, 16 streams", fill_datagrams, 16 },
+    { "frames to 1 stream", fill_frames, 1 },
+    { "frames to 16 streams", fill_frames, 16 },
 };
 
 static void fill_subject(struct capture *capture, const struct subject *subject)
@@ -55,7 +59,7 @@ static bool compare_all(struct capture *capture)
 static double seconds_of_calls(const struct caller *caller, const struct capture *capture)
 {
     uint8_t table[KUNGTHEVI_TABLE_SIZE];
-    uint8_t room[KUNGTHEVI_ROOM_SIZE];
+    uint8_t room[KUNGTHEVI_FRAME_ROOM_SIZE];
     (void)caller->fresh(table, sizeof table);
     double start = clock_processor();
     for (size_t call = 0; call < capture->calls; call++)

@@ -14,10 +14,9 @@ bool capture_is_full(const struct capture *capture)
     return capture->calls == CAPTURE_CALLS;
 }
 
-void capture_add(struct capture *capture, const uint8_t *record)
+void capture_add(struct capture *capture, const uint8_t *record, size_t size)
 {
     size_t start = capture_size(capture);
-    size_t size = record_size_of_kind(record[AT_KIND]);
     if (capture_is_full(capture))
         return;
     memcpy(capture->bytes + start, record, size);

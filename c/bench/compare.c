@@ -15,7 +15,7 @@ enum { ERROR_ACK = 0x05 };
 struct loan {
     uint32_t answer;
     uint8_t table[KUNGTHEVI_TABLE_SIZE];
-    uint8_t room[KUNGTHEVI_ROOM_SIZE];
+    uint8_t room[KUNGTHEVI_FRAME_ROOM_SIZE];
 };
 
 static void start(struct loan loans[CALLERS])

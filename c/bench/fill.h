@@ -15,5 +15,7 @@ filler fill_information; /* INFO_REQ to each stream in turn */
 filler fill_errors;      /* messages that are answered with ERROR_ACK */
 filler fill_connections; /* calls ring in at stream 0, each is accepted on another one, then the peers go */
 filler fill_ringing;     /* every stream has 8 calls open; one after the other is withdrawn, and another arrives */
+filler fill_datagrams;   /* datagrams of 64 bytes from each stream in turn */
+filler fill_frames;      /* frames of 64 bytes, each to all streams */
 
 #endif

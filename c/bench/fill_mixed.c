@@ -13,5 +13,5 @@ void fill_mixed(struct capture *capture, unsigned streams)
     generator.plan.additions = PPAS;
     generator.plan.streams = streams;
     while (!capture_is_full(capture) && generate_next(&generator, &record))
-        capture_add(capture, record.bytes);
+        capture_add(capture, record.bytes, record.size);
 }

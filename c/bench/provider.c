@@ -7,7 +7,7 @@
 #include "../second/second.h"
 
 static_assert(SECOND_TABLE_SIZE == KUNGTHEVI_TABLE_SIZE, "a table fits every provider");
-static_assert(SECOND_ROOM_SIZE == KUNGTHEVI_ROOM_SIZE, "a room fits every provider");
+static_assert(SECOND_FRAME_ROOM_SIZE == KUNGTHEVI_FRAME_ROOM_SIZE, "a room fits every provider");
 
 const struct caller callers[CALLERS] = {
     [LIBRARY] = { kungthevi_fresh, kungthevi_call },

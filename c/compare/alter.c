@@ -20,12 +20,20 @@ static uint32_t smaller(uint32_t a, uint32_t b)
     return a < b ? a : b;
 }
 
-/* The part of a record that says something: behind L a message has padding. */
+/* The part of a record that says something: behind L a message has padding, and so has data. */
 static uint32_t telling_size(const struct record *record)
 {
-    if (!record_is_message(record->bytes))
+    switch (record->bytes[AT_KIND]) {
+    case 'P':
+    case 'C':
+        return AT_BLOCK + smaller(message_length(record), BLOCK_SIZE);
+    case 'M':
+        return AT_DATA + smaller(record->bytes[AT_LENGTH], DATA_SIZE);
+    case 'f':
+        return AT_FRAME_DATA + smaller(record->bytes[AT_FRAME_DATA_LENGTH], DATA_SIZE);
+    default:
         return (uint32_t)record->size;
-    return AT_BLOCK + smaller(message_length(record), BLOCK_SIZE);
+    }
 }
 
 /* A byte behind the kind, seldom one of the padding. */
@@ -98,18 +106,44 @@ static void borrow_field(struct dice *dice, struct record *record, const struct 
     memcpy(record->bytes + to, other->bytes + from, FIELD_SIZE);
 }
 
-/* With the block as it is, so that it has padding or lacks bytes, or with zeros behind the new L. */
+/* Any length, one up to the most or one over it, or one beside the old. */
+static uint8_t draw_length(struct dice *dice, unsigned old, unsigned most)
+{
+    unsigned lengths[] = { 0, 0, old + 1, old - 1 };
+    lengths[0] = dice_below(dice, 256);
+    lengths[1] = dice_below(dice, most + 2);
+    return (uint8_t)lengths[dice_below(dice, LENGTH_OF(lengths))];
+}
+
+/* With the bytes as they are, so that there is padding or some lack, or with zeros behind the new length. */
+static void set_length_of(struct dice *dice, uint8_t *length, unsigned most)
+{
+    *length = draw_length(dice, *length, most);
+    if (*length < most && dice_one_in(dice, 2))
+        memset(length + 1 + *length, 0, most - *length);
+}
+
 static void set_length(struct dice *dice, struct record *record, const struct record *other)
 {
-    unsigned lengths[] = { 0, 0, message_length(record) + 1, message_length(record) - 1 };
     (void)other;
-    lengths[0] = dice_below(dice, 256);
-    lengths[1] = dice_below(dice, BLOCK_SIZE + 2);
-    uint8_t length = (uint8_t)lengths[dice_below(dice, LENGTH_OF(lengths))];
-    if (dice_one_in(dice, 2))
-        message_cut(record, length);
+    set_length_of(dice, record->bytes + AT_LENGTH, record_is_message(record->bytes) ? BLOCK_SIZE : DATA_SIZE);
+}
+
+static void set_frame_length(struct dice *dice, struct record *record, const struct record *other)
+{
+    (void)other;
+    set_length_of(dice, record->bytes + AT_FRAME_DATA_LENGTH, DATA_SIZE);
+}
+
+/* Most often to the other form, whose last byte is then a part of the address or padding. */
+static void set_address_length(struct dice *dice, struct record *record, const struct record *other)
+{
+    uint8_t *length = record->bytes + AT_FRAME_ADDRESS_LENGTH;
+    (void)other;
+    if (dice_one_in(dice, 4))
+        *length = draw_length(dice, *length, TYPE_ADDRESS_SIZE);
     else
-        record->bytes[AT_LENGTH] = length;
+        *length = *length == ADDRESS_SIZE ? TYPE_ADDRESS_SIZE : ADDRESS_SIZE;
 }
 
 static void set_stream(struct dice *dice, struct record *record, const struct record *other)
@@ -136,6 +170,14 @@ static alteration *const of_messages[] = {
     set_length, set_stream, set_stream, trade_kind
 };
 
+static alteration *const of_data[] = {
+    flip_bit, set_byte, set_length, set_length, set_stream
+};
+
+static alteration *const of_frames[] = {
+    flip_bit, flip_bit, set_byte, set_field, step_field, borrow_field, set_frame_length, set_address_length
+};
+
 static alteration *const of_fields[] = {
     flip_bit, set_byte, set_field, step_field, borrow_field, set_stream, trade_kind
 };
@@ -144,14 +186,54 @@ static alteration *const of_streams[] = {
     flip_bit, set_byte, set_stream, trade_kind
 };
 
+#define ONE_OF(dice, alterations) ((alterations)[dice_below(dice, LENGTH_OF(alterations))])
+
+static alteration *draw_alteration(struct dice *dice, const struct record *record)
+{
+    switch (record->bytes[AT_KIND]) {
+    case 'P':
+    case 'C':
+        return ONE_OF(dice, of_messages);
+    case 'M':
+        return ONE_OF(dice, of_data);
+    case 'f':
+        return ONE_OF(dice, of_frames);
+    default:
+        return has_field(record) ? ONE_OF(dice, of_fields) : ONE_OF(dice, of_streams);
+    }
+}
+
+static void alter_whole(struct dice *dice, struct record *record, const struct record *other)
+{
+    if (is_whole(record) && record->size > 1)
+        draw_alteration(dice, record)(dice, record, other);
+}
+
+/* One of the two records that a datagram is. */
+static void alter_part(struct dice *dice, struct record *record, const struct record *other)
+{
+    bool of_message = dice_one_in(dice, 2);
+    uint8_t *bytes = record->bytes + (of_message ? 0 : LONGEST_RECORD);
+    struct record part = { .size = of_message ? LONGEST_RECORD : DATA_RECORD_SIZE };
+    memcpy(part.bytes, bytes, part.size);
+    alter_whole(dice, &part, other);
+    memcpy(bytes, part.bytes, part.size);
+}
+
+/* The stream of both. */
+static void move_datagram(struct dice *dice, struct record *record)
+{
+    uint8_t stream = (uint8_t)dice_below(dice, STREAMS + 1);
+    record->bytes[AT_STREAM] = stream;
+    record->bytes[LONGEST_RECORD + AT_STREAM] = stream;
+}
+
 void alter_record(struct dice *dice, struct record *record, const struct record *other)
 {
-    if (!is_whole(record) || record->size == 1)
-        return;
-    if (record_is_message(record->bytes))
-        of_messages[dice_below(dice, LENGTH_OF(of_messages))](dice, record, other);
-    else if (has_field(record))
-        of_fields[dice_below(dice, LENGTH_OF(of_fields))](dice, record, other);
+    if (record->size != LONGEST_CALL)
+        alter_whole(dice, record, other);
+    else if (dice_one_in(dice, 4))
+        move_datagram(dice, record);
     else
-        of_streams[dice_below(dice, LENGTH_OF(of_streams))](dice, record, other);
+        alter_part(dice, record, other);
 }

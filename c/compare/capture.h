@@ -1,4 +1,4 @@
-/* A capture as it is generated, record by record, and as a run of bytes. */
+/* A capture as it is generated, call by call, and as a run of bytes. */
 #ifndef COMPARE_CAPTURE_H
 #define COMPARE_CAPTURE_H
 
@@ -17,7 +17,7 @@ struct originals {
 /* A form has at most two records, or a record and as much junk, for each original one. */
 struct capture {
     size_t size;
-    uint8_t bytes[2 * MOST_RECORDS * LONGEST_RECORD];
+    uint8_t bytes[2 * MOST_RECORDS * LONGEST_CALL];
 };
 
 /* The capture of the seed with so many records, at most MOST_RECORDS. */

@@ -9,13 +9,14 @@ enum { LONGEST_PATH = 4096 };
 
 /* --- Printing */
 
-/* The record's bytes, or all that were lent where they are no whole record. */
+/* What the call read, or all that was lent where that is no whole record or may be the beginning of a datagram's M. */
 static size_t telling_size(const struct difference *difference)
 {
-    size_t whole = 0;
-    if (difference->lending->record_size > 0)
-        whole = record_size_of_kind(difference->lending->record[AT_KIND]);
-    return whole == 0 || whole > difference->lending->record_size ? difference->lending->record_size : whole;
+    const struct lending *lending = difference->lending;
+    size_t size = record_size_of_call(lending->record, lending->record_size);
+    if (size != 0 && !record_wants_data(lending->record))
+        return size;
+    return lending->record_size < LONGEST_CALL ? lending->record_size : LONGEST_CALL;
 }
 
 static void print_record(const struct difference *difference)

@@ -27,7 +27,7 @@ static const char *judge_refused(const struct lending *lending, const struct out
 
 static const char *judge_served(const struct lending *lending, const struct outcome *outcome)
 {
-    if (lending->room_size < KUNGTHEVI_ROOM_SIZE)
+    if (lending->room_size < lending_room_needed(lending))
         return "served a call with too little room";
     if (KUNGTHEVI_WRITTEN(outcome->answer) > lending->room_size)
         return "gave more bytes than the room has";

@@ -2,8 +2,8 @@
  *
  * The captures of the seeds from SEED on, and changed forms of them, are played to both until CALLS calls are compared:
  * 1000000 from seed 1 if not told otherwise. A difference is printed, and the capture that leads to it is written to a
- * file in DIR, or where the program runs. The exit status is 1 after any, and if enough calls left out a refusal number
- * or a size of room. */
+ * file in DIR, or where the program runs. The exit status is 1 after any, and if enough calls left out something that
+ * they must reach. */
 #include <stdio.h>
 #include <string.h>
 
@@ -14,7 +14,7 @@ enum {
     ALL_ALIKE = 0,
     NOT_ALIKE = 1,
     BAD_ARGUMENTS = 2,
-    ENOUGH_FOR_ALL = 100000 /* calls that reach every refusal number and every size of room */
+    ENOUGH_FOR_ALL = 100000 /* calls that reach all that counts_are_full asks for */
 };
 
 static bool read_arguments(int argc, char **argv, struct comparison *comparison)

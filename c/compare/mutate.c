@@ -1,6 +1,8 @@
 /* The steps by which a capture becomes another form of itself. */
 #include "mutate.h"
 
+#include <string.h>
+
 #include "../generate/array.h"
 #include "alter.h"
 
@@ -55,7 +57,27 @@ static void swap(struct mutation *mutation)
     capture_add(mutation->form, first);
 }
 
-static step *const whole_steps[] = { alter, alter, alter, alter, alter, alter, alter, leave_out, put_twice, swap };
+/* A datagram's message and its M with the next record between them, or one of the two alone. */
+static void part(struct mutation *mutation)
+{
+    struct record message = *take(mutation);
+    struct record data = { .size = 0 };
+    if (message.size == LONGEST_CALL) {
+        message.size = LONGEST_RECORD;
+        data.size = DATA_RECORD_SIZE;
+        memcpy(data.bytes, message.bytes + LONGEST_RECORD, data.size);
+    }
+    if (!dice_one_in(mutation->dice, 4))
+        capture_add(mutation->form, &message);
+    if (mutation->next < mutation->originals->count && dice_one_in(mutation->dice, 2))
+        keep(mutation);
+    if (!dice_one_in(mutation->dice, 4))
+        capture_add(mutation->form, &data);
+}
+
+static step *const whole_steps[] = {
+    alter, alter, alter, alter, alter, alter, alter, leave_out, put_twice, swap, part
+};
 
 /* --- Steps that lose the beginning of the next record */
 
@@ -69,7 +91,7 @@ static void cut(struct mutation *mutation)
 static void put_junk_before(struct mutation *mutation)
 {
     struct record junk;
-    junk.size = 1 + dice_below(mutation->dice, LONGEST_RECORD);
+    junk.size = 1 + dice_below(mutation->dice, LONGEST_CALL);
     for (size_t i = 0; i < junk.size; i++)
         junk.bytes[i] = (uint8_t)dice_any(mutation->dice);
     capture_add(mutation->form, &junk);

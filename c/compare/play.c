@@ -10,6 +10,7 @@
 /* How often what happens, once in so many records. */
 enum {
     SHORT_TRIES = 4,
+    CUT_TRIES = 256, /* once in so many datagrams */
     DAMAGED_TRIES = 4,
     KEPT_IMAGES = 8,
     MOVED_COUNTERS = 16,
@@ -23,7 +24,7 @@ struct play {
     uint64_t call;      /* its number, from 1 */
     bool moves_counter; /* in this form */
     const char *unlike_replay;
-    uint8_t room[LARGEST_ROOM];
+    uint8_t rooms[2 * LARGEST_ROOM];     /* any bytes, of which a room takes some */
     uint8_t table[KUNGTHEVI_TABLE_SIZE]; /* that of both, as they agree */
 };
 
@@ -55,7 +56,7 @@ static bool call_both(struct play *play, const struct lending *lending, const ch
 {
     for (unsigned i = 0; i < PROVIDERS; i++)
         provider_call(&providers[i], lending, &outcomes[i]);
-    counts_add_call(&play->comparison->counts, lending, outcomes[LIBRARY].answer);
+    counts_add_call(&play->comparison->counts, lending, &outcomes[LIBRARY]);
     struct verdict verdict = judge_call(lending, outcomes);
     if (verdict.what == NULL)
         return true;
@@ -65,36 +66,57 @@ static bool call_both(struct play *play, const struct lending *lending, const ch
 
 /* --- What is lent */
 
-static void fill_room(struct play *play)
+static void fill_rooms(struct play *play)
 {
-    for (size_t i = 0; i < sizeof play->room; i++)
-        play->room[i] = (uint8_t)dice_any(play->dice);
+    for (size_t i = 0; i < sizeof play->rooms; i++)
+        play->rooms[i] = (uint8_t)dice_any(play->dice);
 }
 
-/* The rest of the capture as far as it can matter, at times the record alone. */
+/* The rest of the capture as far as it can matter, at times what the call reads alone. */
 static size_t draw_record_size(const struct play *play, const uint8_t *record, size_t rest)
 {
-    size_t whole = record_size_of_kind(record[AT_KIND]);
-    size_t most = LONGEST_RECORD + dice_below(play->dice, LONGEST_RECORD);
-    if (dice_one_in(play->dice, 3) && whole != 0)
-        most = whole;
+    size_t size = record_size_of_call(record, rest);
+    size_t most = LONGEST_CALL + dice_below(play->dice, LONGEST_CALL);
+    if (dice_one_in(play->dice, 3) && size != 0)
+        most = size;
     return most < rest ? most : rest;
 }
 
 static struct lending draw_lending(struct play *play)
 {
     const struct capture *capture = &play->comparison->capture;
-    const uint8_t *record = capture->bytes + play->at;
-    size_t record_size = draw_record_size(play, record, capture->size - play->at);
-    fill_room(play);
-    return (struct lending){
+    struct lending lending = {
         .table = play->table,
         .table_size = sizeof play->table,
-        .record = record,
-        .record_size = record_size,
-        .room = play->room,
-        .room_size = KUNGTHEVI_ROOM_SIZE + dice_below(play->dice, LARGEST_ROOM - KUNGTHEVI_ROOM_SIZE + 1),
+        .record = capture->bytes + play->at,
     };
+    lending.record_size = draw_record_size(play, lending.record, capture->size - play->at);
+    lending.room = play->rooms + dice_below(play->dice, LARGEST_ROOM + 1);
+    lending.room_size = lending_room_needed(&lending) + dice_below(play->dice, MOST_SPARE_ROOM + 1);
+    return lending;
+}
+
+/* Any that is too little, one byte less than is needed more often, and for a frame about what any other call needs. */
+static size_t draw_little_room(const struct play *play, const struct lending *lending)
+{
+    size_t needed = lending_room_needed(lending);
+    switch (dice_below(play->dice, 4)) {
+    case 0:
+        return needed - 1;
+    case 1:
+        return lending_is_frame(lending) ? KUNGTHEVI_ROOM_SIZE - dice_below(play->dice, 2) : needed - 1;
+    default:
+        return dice_below(play->dice, (uint32_t)needed);
+    }
+}
+
+/* Fewer than are lent, half the time fewer than the call reads. */
+static size_t draw_fewer_bytes(const struct play *play, const struct lending *lending)
+{
+    size_t size = record_size_of_call(lending->record, lending->record_size);
+    if (size == 0 || dice_one_in(play->dice, 2))
+        size = lending->record_size;
+    return dice_below(play->dice, (uint32_t)size);
 }
 
 /* --- Calls along the way */
@@ -105,12 +127,28 @@ static bool try_short(struct play *play, struct lending lending)
     struct outcome outcomes[PROVIDERS];
     const char *unlike_replay = play->unlike_replay;
     if (!dice_one_in(play->dice, 4)) {
-        lending.room_size = dice_below(play->dice, KUNGTHEVI_ROOM_SIZE);
+        lending.room_size = draw_little_room(play, &lending);
         unlike_replay = "the room lent was smaller";
     }
     if (dice_one_in(play->dice, 4))
-        lending.record_size = dice_below(play->dice, (uint32_t)lending.record_size);
+        lending.record_size = draw_fewer_bytes(play, &lending);
     return call_both(play, &lending, unlike_replay, outcomes);
+}
+
+/* A datagram and its M cut at each byte. */
+static bool try_cuts(struct play *play, struct lending lending)
+{
+    struct outcome outcomes[PROVIDERS];
+    for (lending.record_size = 0; lending.record_size < LONGEST_CALL; lending.record_size++)
+        if (comparison_is_over(play->comparison) || !call_both(play, &lending, play->unlike_replay, outcomes))
+            return false;
+    play->comparison->counts.datagrams_cut++;
+    return true;
+}
+
+static bool is_datagram(const struct lending *lending)
+{
+    return record_size_of_call(lending->record, lending->record_size) == LONGEST_CALL;
 }
 
 /* The record for a damaged image, at times with a room of any size. */
@@ -121,7 +159,7 @@ static bool try_damaged(struct play *play, struct lending lending)
     lending.table = image;
     lending.table_size = damage_draw(&play->comparison->kept, play->dice, image);
     if (dice_one_in(play->dice, 4))
-        lending.room_size = dice_below(play->dice, LARGEST_ROOM + 1);
+        lending.room_size = dice_below(play->dice, (uint32_t)lending_room_needed(&lending) + MOST_SPARE_ROOM + 1);
     bool agreed = call_both(play, &lending, "the table lent was damaged", outcomes);
     counts_add_damaged(&play->comparison->counts, outcomes[LIBRARY].answer);
     return agreed;
@@ -143,10 +181,10 @@ static bool fresh_both(struct play *play, size_t table_size, struct outcome outc
     struct lending lending = {
         .table = table,
         .table_size = table_size,
-        .record = play->room,
-        .room = play->room,
+        .record = play->rooms,
+        .room = play->rooms,
     };
-    memset(table, play->room[0], sizeof table);
+    memset(table, play->rooms[0], sizeof table);
     for (unsigned i = 0; i < PROVIDERS; i++)
         provider_fresh(&providers[i], &lending, &outcomes[i]);
     struct verdict verdict = judge_fresh(&lending, outcomes);
@@ -160,7 +198,7 @@ static bool fresh_both(struct play *play, size_t table_size, struct outcome outc
 static bool start(struct play *play)
 {
     struct outcome outcomes[PROVIDERS];
-    fill_room(play);
+    fill_rooms(play);
     for (size_t i = 0; i < WRONG_LENGTHS; i++)
         if (!fresh_both(play, wrong_lengths[i], outcomes))
             return false;
@@ -192,6 +230,8 @@ static bool play_record(struct play *play)
         move_counter(play);
     struct lending lending = draw_lending(play);
     if (dice_one_in(play->dice, SHORT_TRIES) && !try_short(play, lending))
+        return false;
+    if (is_datagram(&lending) && dice_one_in(play->dice, CUT_TRIES) && !try_cuts(play, lending))
         return false;
     if (comparison_is_over(play->comparison))
         return false;

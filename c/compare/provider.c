@@ -1,10 +1,15 @@
 /* The entries of both providers, and the lending of bytes to them. */
 #include "provider.h"
 
+#include <assert.h>
 #include <string.h>
 
+#include "../layout.h"
 #include "../second/second.h"
 #include "lent.h"
+
+static_assert(SECOND_ROOM_SIZE == KUNGTHEVI_ROOM_SIZE && SECOND_FRAME_ROOM_SIZE == KUNGTHEVI_FRAME_ROOM_SIZE,
+              "both need as much room");
 
 /* Odd, so that what is lent stands at odd addresses, and longer than a record, so that one out of place is still caught
  * before it does harm. */
@@ -22,6 +27,16 @@ const struct provider providers[PROVIDERS] = {
     [LIBRARY] = { "library", GUARD, kungthevi_fresh, kungthevi_call, kungthevi_record_size },
     [SECOND] = { "second", GUARD_OF_SECOND, second_fresh, second_call, second_record_size },
 };
+
+bool lending_is_frame(const struct lending *lending)
+{
+    return lending->record_size > 0 && lending->record[AT_KIND] == 'f';
+}
+
+size_t lending_room_needed(const struct lending *lending)
+{
+    return lending_is_frame(lending) ? KUNGTHEVI_FRAME_ROOM_SIZE : KUNGTHEVI_ROOM_SIZE;
+}
 
 static const char *find_trespass(const struct lending *lending, const struct lent *table, const struct lent *record,
                                  const struct lent *room)

@@ -2,6 +2,7 @@
 #ifndef COMPARE_PROVIDER_H
 #define COMPARE_PROVIDER_H
 
+#include <stdbool.h>
 #include <stddef.h>
 #include <stdint.h>
 
@@ -9,7 +10,8 @@
 
 enum {
     LARGEST_TABLE = 1024, /* longer than a table, as wrong lengths are lent too */
-    LARGEST_ROOM = 200
+    MOST_SPARE_ROOM = 72, /* beyond what the call needs */
+    LARGEST_ROOM = KUNGTHEVI_FRAME_ROOM_SIZE + MOST_SPARE_ROOM
 };
 
 struct provider {
@@ -38,6 +40,12 @@ struct lending {
     const uint8_t *room;
     size_t room_size;
 };
+
+/* Whether the record is a frame, by its kind. */
+bool lending_is_frame(const struct lending *lending);
+
+/* The room that the call needs. */
+size_t lending_room_needed(const struct lending *lending);
 
 /* What a provider gave, and what it left. */
 struct outcome {

@@ -7,7 +7,7 @@
 
 enum {
     ALIGNMENTS = 8,
-    MOST_CALLS = 32
+    MOST_CALLS = 40
 };
 
 /* Every kind of record, served, and some that are not. */
@@ -15,20 +15,22 @@ static const char records[] =
     LISTENER CALL CALL "P 01 08 0000000b 00000001; C 01 14 00000001 00000082 00000000 0001 0000 00000000;"
     ACCEPT("00000002", "00000002") "R 01 00000007; P 01 04 00000019; P 01 04 00000017; S 01; D 01 00000009;"
     "P 01 1f 0000000d 00000007 00000018 00000000 00000000 00000000 02000000000984; A 01 02000000000984;"
-    "W 00 00000001 00000003;" CALL "X 00;" INFO "X 0f; A 01 02000000000984; P 01 61;";
+    "W 00 00000001 00000003;" CALL "X 00;" INFO "X 0f; A 01 02000000000984; P 01 61;"
+    "O;" ATTACH("00", "00000001") BIND_FOR_DATAGRAMS("00", "00000080") DATAGRAM FRAME DATAGRAM_ALONE ";"
+    "M 00 02 6869;";
 
 /* What the calls for the records gave and left. */
 struct course {
     uint32_t answers[MOST_CALLS];
-    uint8_t rooms[MOST_CALLS][KUNGTHEVI_ROOM_SIZE];
+    uint8_t rooms[MOST_CALLS][KUNGTHEVI_FRAME_ROOM_SIZE];
     uint8_t tables[MOST_CALLS][KUNGTHEVI_TABLE_SIZE];
 };
 
 /* Runs of bytes that may begin up to seven bytes behind a multiple of eight. */
 struct areas {
     _Alignas(ALIGNMENTS) uint8_t table[ALIGNMENTS + KUNGTHEVI_TABLE_SIZE];
-    _Alignas(ALIGNMENTS) uint8_t record[ALIGNMENTS + LONGEST_RECORD];
-    _Alignas(ALIGNMENTS) uint8_t room[ALIGNMENTS + KUNGTHEVI_ROOM_SIZE];
+    _Alignas(ALIGNMENTS) uint8_t record[ALIGNMENTS + LONGEST_CALL];
+    _Alignas(ALIGNMENTS) uint8_t room[ALIGNMENTS + KUNGTHEVI_FRAME_ROOM_SIZE];
 };
 
 static void go(struct course *course, unsigned table_at, unsigned record_at, unsigned room_at)
@@ -41,9 +43,10 @@ static void go(struct course *course, unsigned table_at, unsigned record_at, uns
     (void)kungthevi_fresh(table, KUNGTHEVI_TABLE_SIZE);
     for (unsigned i = 0; i < MOST_CALLS && *text != '\0'; i++) {
         size_t size = text_record(&text, record);
-        memset(room, ROOM_BYTE, KUNGTHEVI_ROOM_SIZE);
-        course->answers[i] = kungthevi_call(table, KUNGTHEVI_TABLE_SIZE, record, size, room, KUNGTHEVI_ROOM_SIZE);
-        memcpy(course->rooms[i], room, KUNGTHEVI_ROOM_SIZE);
+        memset(room, ROOM_BYTE, KUNGTHEVI_FRAME_ROOM_SIZE);
+        course->answers[i] =
+            kungthevi_call(table, KUNGTHEVI_TABLE_SIZE, record, size, room, KUNGTHEVI_FRAME_ROOM_SIZE);
+        memcpy(course->rooms[i], room, KUNGTHEVI_FRAME_ROOM_SIZE);
         memcpy(course->tables[i], table, KUNGTHEVI_TABLE_SIZE);
     }
 }

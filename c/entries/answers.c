@@ -40,4 +40,7 @@ void run_answers(struct checks *checks)
     check_answer(checks, "a denial", stage_call(&stage, "P 00 0c 00000013 00000000 00000001"), 0, 10 + LONGEST_RECORD);
     check_answer(checks, "an UNBIND_REQ", stage_call(&stage, "P 00 04 00000002"), 0, 2 + LONGEST_RECORD);
     check_answer(checks, "an idle stream's close", stage_call(&stage, "X 00"), 0, 0);
+    stage_set(&stage, BOARD);
+    check_answer(checks, "a datagram", stage_call(&stage, DATAGRAM), 0, SENT_SIZE);
+    check_answer(checks, "a frame", stage_call_in_room(&stage, FRAME, KUNGTHEVI_FRAME_ROOM_SIZE), 0, LONGEST_CALL);
 }

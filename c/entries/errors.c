@@ -1,4 +1,4 @@
-/* Every error code of the header, by a request whose answer in the room has it. */
+/* Every error code of the header, by a request whose answer in the room, a DL_ERROR_ACK, has it. */
 #include <string.h>
 
 #include "groups.h"
@@ -27,11 +27,12 @@ static const struct error errors[] = {
       "P 00 14 00000001 00000080 00000000 0003 0000 00000000" },
     { NAMED(KUNGTHEVI_DL_BADPPA), TWO_STREAMS, ATTACH("00", "00000003") },
     { NAMED(KUNGTHEVI_DL_BADPRIM), TWO_STREAMS, "P 00 07 0000000b 000000" },
+    { NAMED(KUNGTHEVI_DL_BADPRIM), BOARD, "P 00 13 00000007 00000007 00000014 00000000 000000 + M 00 02 6869" },
     { NAMED(KUNGTHEVI_DL_BADQOSTYPE), LISTENER,
       "P 00 1f 0000000d 00000007 00000018 00000001 00000000 00000000 02000000000984" },
     { NAMED(KUNGTHEVI_DL_BADTOKEN), LISTENER CALL, ACCEPT("00000001", "00000003") },
     { NAMED(KUNGTHEVI_DL_BOUND), LISTENER ATTACH("01", "00000001"), BIND("01", "00000001") },
-    { NAMED(KUNGTHEVI_DL_NOTSUPPORTED), TWO_STREAMS, "P 00 04 00000007" },
+    { NAMED(KUNGTHEVI_DL_NOTSUPPORTED), TWO_STREAMS, "P 00 04 0000000a" },
     { NAMED(KUNGTHEVI_DL_NOAUTO), TWO_STREAMS ATTACH("00", "00000001"),
       "P 00 14 00000001 00000080 00000000 0001 0000 00000001" },
     { NAMED(KUNGTHEVI_DL_PENDING), LISTENER CALL CALL, ACCEPT("00000001", "00000001") },
@@ -40,7 +41,7 @@ static const struct error errors[] = {
 /* DL_ERROR_ACK to the stream that asked: its code, that of the request, the error, and 0. */
 static void put_error_ack(const char *request, uint32_t code, uint8_t record[LONGEST_RECORD])
 {
-    uint8_t asked[LONGEST_RECORD];
+    uint8_t asked[LONGEST_CALL];
     (void)text_record(&request, asked);
     memset(record, 0, LONGEST_RECORD);
     record[AT_KIND] = 'C';

@@ -8,9 +8,12 @@ void run_nothing(struct checks *checks);
 void run_tables(struct checks *checks);
 void run_rooms(struct checks *checks);
 void run_records(struct checks *checks);
+void run_pairs(struct checks *checks);
 void run_addresses(struct checks *checks);
 void run_answers(struct checks *checks);
 void run_refusals(struct checks *checks);
 void run_errors(struct checks *checks);
+void run_datagrams(struct checks *checks);
+void run_frames(struct checks *checks);
 
 #endif

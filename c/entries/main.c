@@ -10,10 +10,13 @@ int main(void)
     run_tables(&checks);
     run_rooms(&checks);
     run_records(&checks);
+    run_pairs(&checks);
     run_addresses(&checks);
     run_answers(&checks);
     run_refusals(&checks);
     run_errors(&checks);
+    run_datagrams(&checks);
+    run_frames(&checks);
     printf("%u passed, %u failed\n", checks.passed, checks.failed);
     return checks.failed == 0 ? 0 : 1;
 }

@@ -4,20 +4,17 @@
 #include "groups.h"
 #include "stage.h"
 
-enum {
-    KINDS = 256,
-    MOST_LENT = 200
-};
+enum { KINDS = 256 };
 
-/* The bytes of a whole record, or 0 for what is no kind of record in. */
+/* The bytes of a whole record by itself, or 0 for what is no kind of record in. */
 static size_t owed_size(unsigned kind)
 {
     static const struct {
         unsigned char kind;
         size_t size;
     } sizes[] = {
-        { 'G', 11 }, { 'O', 1 }, { 'X', 2 }, { 'P', 99 }, { 'C', 99 }, { 'I', 19 },
-        { 'A', 9 }, { 'D', 6 }, { 'W', 10 }, { 'R', 6 }, { 'S', 2 },
+        { 'G', 11 }, { 'O', 1 }, { 'X', 2 }, { 'P', 99 }, { 'C', 99 }, { 'I', 19 }, { 'A', 9 },
+        { 'D', 6 }, { 'W', 10 }, { 'R', 6 }, { 'S', 2 }, { 'M', 67 }, { 'f', 87 },
     };
     for (size_t i = 0; i < sizeof sizes / sizeof sizes[0]; i++)
         if (kind == sizes[i].kind)
@@ -25,7 +22,13 @@ static size_t owed_size(unsigned kind)
     return 0;
 }
 
-/* Whether the kind has its size with so many bytes lent; if it has none there, a call refuses it. */
+/* Whole, but no record all the same: an M by itself, and an f with an address length of 0xff. */
+static bool is_refused_whole(unsigned kind)
+{
+    return kind == 'M' || kind == 'f';
+}
+
+/* Whether the kind, its body all 0xff, has its size with so many bytes lent; if it has none, a call refuses it. */
 static bool is_sized(unsigned kind, size_t lent)
 {
     struct stage stage;
@@ -38,7 +41,7 @@ static bool is_sized(unsigned kind, size_t lent)
     stage_set(&stage, LISTENER);
     stage_prepare(&stage);
     uint32_t answer = kungthevi_call(stage.table, sizeof stage.table, record, lent, stage.room, KUNGTHEVI_ROOM_SIZE);
-    if (size != 0)
+    if (size != 0 && !is_refused_whole(kind))
         return KUNGTHEVI_REFUSAL(answer) != KUNGTHEVI_NOT_A_RECORD;
     return answer == (uint32_t)KUNGTHEVI_NOT_A_RECORD << 16 && stage_is_kept(&stage);
 }

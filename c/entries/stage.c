@@ -19,29 +19,34 @@ void stage_prepare(struct stage *stage)
     memset(stage->room, ROOM_BYTE, sizeof stage->room);
 }
 
-/* Calls for the next record of the text. */
+/* The next call for the text. */
 static uint32_t call_next(struct stage *stage, const char **text, size_t room_len)
 {
-    uint8_t record[LONGEST_RECORD];
+    uint8_t record[LONGEST_CALL];
     size_t size = text_record(text, record);
-    stage_prepare(stage);
     return kungthevi_call(stage->table, sizeof stage->table, record, size, stage->room, room_len);
 }
 
 void stage_set(struct stage *stage, const char *records)
 {
     (void)kungthevi_fresh(stage->table, sizeof stage->table);
+    stage_go_on(stage, records);
+}
+
+void stage_go_on(struct stage *stage, const char *records)
+{
     while (*records != '\0')
         (void)call_next(stage, &records, KUNGTHEVI_ROOM_SIZE);
 }
 
 uint32_t stage_call(struct stage *stage, const char *record)
 {
-    return call_next(stage, &record, KUNGTHEVI_ROOM_SIZE);
+    return stage_call_in_room(stage, record, KUNGTHEVI_ROOM_SIZE);
 }
 
 uint32_t stage_call_in_room(struct stage *stage, const char *record, size_t room_len)
 {
+    stage_prepare(stage);
     return call_next(stage, &record, room_len);
 }
 

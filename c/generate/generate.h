@@ -6,7 +6,7 @@
 
 void generate_start(struct generator *generator, uint64_t seed, uint64_t calls);
 
-/* Makes the next record; false after the last. */
+/* Makes the record of the next call, a datagram with its M; false after the last. */
 bool generate_next(struct generator *generator, struct record *record);
 
 #endif

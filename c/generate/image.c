@@ -68,6 +68,11 @@ unsigned image_sap(const uint8_t *image, unsigned stream)
     return get16(slot(image, stream) + AT_SAP);
 }
 
+unsigned image_address_size(const uint8_t *image, unsigned stream)
+{
+    return image_sap(image, stream) < TYPE_FIRST ? ADDRESS_SIZE : TYPE_ADDRESS_SIZE;
+}
+
 uint32_t image_ppa(const uint8_t *image, unsigned stream)
 {
     return get32(slot(image, stream) + AT_SLOT_PPA);

@@ -19,6 +19,10 @@ int image_find_ppa(const uint8_t *image, uint32_t number);
 unsigned image_state(const uint8_t *image, unsigned stream);
 unsigned image_mode(const uint8_t *image, unsigned stream);
 unsigned image_sap(const uint8_t *image, unsigned stream);
+
+/* Of the stream's address, by its SAP or type; that of an unbound stream is as for a SAP. */
+unsigned image_address_size(const uint8_t *image, unsigned stream);
+
 uint32_t image_ppa(const uint8_t *image, unsigned stream);
 unsigned image_granted(const uint8_t *image, unsigned stream);
 unsigned image_indications(const uint8_t *image, unsigned stream);

@@ -1,4 +1,4 @@
-/* generate SEED CALLS: writes a capture of so many records, which follows from the two numbers. */
+/* generate SEED CALLS: writes a capture of so many calls, which follows from the two numbers. */
 #include <stdio.h>
 #include <stdlib.h>
 

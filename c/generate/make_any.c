@@ -12,7 +12,7 @@ bool make_for_no_stream(struct generator *generator, uint32_t subject, struct re
     static const char kinds[] = "XADWRSPCPCPC";
     (void)subject;
     uint8_t kind = (uint8_t)kinds[dice_below(&generator->dice, sizeof kinds - 1)];
-    message_start(generator, record, 0, dice_below(&generator->dice, 0x22));
+    message_start(generator, record, 0, pick_small_code(generator));
     if (!record_is_message(&kind))
         pick_bytes(generator, record->bytes + AT_STREAM, LONGEST_RECORD - AT_STREAM);
     else if (dice_one_in(&generator->dice, 2))
@@ -40,7 +40,7 @@ bool make_again(struct generator *generator, uint32_t subject, struct record *re
 /* A record that lacks bytes at its end; every kind save O can be cut. */
 static void make_cut(struct generator *generator, struct record *record)
 {
-    static const char kinds[] = "GXPCIADWRS";
+    static const char kinds[] = "GXPCIADWRSMf";
     uint8_t kind = (uint8_t)kinds[dice_below(&generator->dice, sizeof kinds - 1)];
     memset(record->bytes, 0, sizeof record->bytes);
     record->bytes[AT_KIND] = kind;
@@ -50,7 +50,7 @@ static void make_cut(struct generator *generator, struct record *record)
 /* Kinds of records out, kinds of records in but for one bit, and any others. */
 static void make_unknown_kind(struct generator *generator, struct record *record)
 {
-    static const char kinds[] = "Fcadrs\0gopxiw";
+    static const char kinds[] = "Fcadrsu\0gopxiwm";
     uint8_t kind = (uint8_t)kinds[dice_below(&generator->dice, sizeof kinds - 1)];
     if (dice_one_in(&generator->dice, 3))
         kind = (uint8_t)dice_any(&generator->dice);
@@ -65,4 +65,16 @@ void make_end_of_reading(struct generator *generator, struct record *record)
         make_cut(generator, record);
     else
         make_unknown_kind(generator, record);
+}
+
+bool make_cut_datagram(struct generator *generator, uint32_t subject, struct record *record)
+{
+    uint8_t *data = record->bytes + LONGEST_RECORD;
+    (void)subject;
+    if (!make_right_request(generator, UNITDATA_REQ, record))
+        return false;
+    data[AT_KIND] = 'M';
+    data[AT_STREAM] = record->bytes[AT_STREAM];
+    record->size = LONGEST_RECORD + 1 + dice_below(&generator->dice, DATA_RECORD_SIZE - 1);
+    return true;
 }

@@ -31,12 +31,6 @@ static bool call_where(struct generator *generator, stream_test *test, struct re
     return true;
 }
 
-static void spoil_called_mac(struct generator *generator, struct record *record)
-{
-    uint8_t *byte = record->bytes + AT_CALLED + dice_below(&generator->dice, MAC_SIZE);
-    *byte ^= (uint8_t)(1u << dice_below(&generator->dice, 8));
-}
-
 /* The listener is idle or has calls open, fewer than its granted count. */
 static bool takes_call(const uint8_t *image, unsigned stream, unsigned unused)
 {
@@ -63,7 +57,7 @@ bool make_call_too_many(struct generator *generator, uint32_t subject, struct re
     if (!call_where(generator, listens_in_vain, record))
         return false;
     if (dice_one_in(&generator->dice, 4))
-        spoil_called_mac(generator, record);
+        pick_bit(generator, record->bytes + AT_CALLED, MAC_SIZE);
     return true;
 }
 
@@ -80,7 +74,7 @@ bool make_call_for_nobody(struct generator *generator, uint32_t subject, struct 
         put32(record->bytes + AT_PPA, pick_unknown_ppa(generator));
         break;
     case 1:
-        spoil_called_mac(generator, record);
+        pick_bit(generator, record->bytes + AT_CALLED, MAC_SIZE);
         break;
     default:
         put_call(generator, record, (unsigned)place, dice_below(&generator->dice, SAP_END));

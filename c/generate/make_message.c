@@ -17,7 +17,7 @@ static bool make_with_code(struct generator *generator, uint32_t code, struct re
 
 bool make_unsupported(struct generator *generator, uint32_t subject, struct record *record)
 {
-    static const uint8_t codes[] = { 0x07, 0x0a, 0x15, 0x1b, 0x1d, 0x1e, 0x1f, 0x20 };
+    static const uint8_t codes[] = { 0x0a, 0x15, 0x1b, 0x1d, 0x1e, 0x1f, 0x20 };
     (void)subject;
     return make_with_code(generator, codes[dice_below(&generator->dice, LENGTH_OF(codes))], record);
 }
@@ -26,8 +26,8 @@ bool make_unsupported(struct generator *generator, uint32_t subject, struct reco
 bool make_other_code(struct generator *generator, uint32_t subject, struct record *record)
 {
     static const uint8_t codes[] = {
-        0x03, 0x04, 0x05, 0x06, 0x0e, 0x10, 0x12, 0x14, 0x18, 0x1a, /* replies */
-        0x08, 0x09, 0x16, 0x1c, 0x21, 0xff
+        0x03, 0x04, 0x05, 0x06, 0x08, 0x09, 0x0e, 0x10, 0x12, 0x14, 0x18, 0x1a, /* replies */
+        0x16, 0x1c, 0x21, 0xff
     };
     (void)subject;
     uint32_t code = codes[dice_below(&generator->dice, LENGTH_OF(codes))];
@@ -56,7 +56,7 @@ bool make_any_length(struct generator *generator, uint32_t subject, struct recor
     int stream = pick_stream(generator, ALL_STATES);
     if (stream < 0)
         return false;
-    message_start(generator, record, (unsigned)stream, dice_below(&generator->dice, 0x22));
+    message_start(generator, record, (unsigned)stream, pick_small_code(generator));
     pick_bytes(generator, record->bytes + AT_BLOCK + CODE_SIZE, BLOCK_SIZE - CODE_SIZE);
     message_cut(record, pick_length(generator));
     return true;

@@ -7,7 +7,7 @@
 
 static const struct request *const requests[] = {
     &request_info, &request_token, &request_attach, &request_detach, &request_bind, &request_unbind,
-    &request_connect, &request_accept, &request_disconnect, &request_reset, &request_reset_answer,
+    &request_connect, &request_accept, &request_disconnect, &request_reset, &request_reset_answer, &request_datagram,
 };
 
 /* The request of that code, which is one of those above. */

@@ -25,13 +25,17 @@ static uint32_t number_to_add(struct generator *generator)
     }
 }
 
-/* MACs may be equal, so now and then it is that of another PPA. */
+/* MACs may be equal, so now and then it is that of another PPA; a frame to all is one's own where that is the MAC. */
 static void put_mac_to_add(struct generator *generator, uint8_t *mac)
 {
     static const uint8_t local[MAC_SIZE] = { 0x02 };
     int place = pick_ppa(generator);
     if (place >= 0 && dice_one_in(&generator->dice, 6)) {
         memcpy(mac, image_ppa_mac(generator->table, (unsigned)place), MAC_SIZE);
+        return;
+    }
+    if (dice_one_in(&generator->dice, 16)) {
+        memset(mac, 0xff, MAC_SIZE);
         return;
     }
     memcpy(mac, local, MAC_SIZE);

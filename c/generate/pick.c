@@ -49,6 +49,23 @@ unsigned pick_no_stream(struct generator *generator)
     return STREAMS + dice_below(&generator->dice, 256 - STREAMS);
 }
 
+/* Such a stream stays idle until it is unbound, and then has no mode. */
+bool is_connectionless(const uint8_t *image, unsigned stream, unsigned unused)
+{
+    (void)unused;
+    return image_mode(image, stream) == MODE_CONNECTIONLESS;
+}
+
+static bool is_connectionless_beside(const uint8_t *image, unsigned stream, unsigned other)
+{
+    return is_connectionless(image, stream, 0) && image_ppa(image, stream) == image_ppa(image, other);
+}
+
+int pick_connectionless_beside(struct generator *generator, unsigned stream)
+{
+    return pick_stream_where(generator, is_connectionless_beside, stream);
+}
+
 int pick_ppa(struct generator *generator)
 {
     unsigned count = image_ppas(generator->table);
@@ -113,6 +130,11 @@ uint32_t pick_foreign_number(struct generator *generator, unsigned stream)
     }
 }
 
+uint32_t pick_small_code(struct generator *generator)
+{
+    return dice_one_in(&generator->dice, 4) ? UNITDATA_REQ : dice_below(&generator->dice, SMALL_CODES);
+}
+
 unsigned pick_sap(struct generator *generator)
 {
     if (!dice_one_in(&generator->dice, 8))
@@ -123,10 +145,9 @@ unsigned pick_sap(struct generator *generator)
 
 unsigned pick_type(struct generator *generator)
 {
-    static const uint16_t types[] = { TYPE_FIRST, TYPE_FIRST + 1, 0x0800, 0x0806, 0x8137, 0x86dd, TYPE_LAST };
     if (dice_one_in(&generator->dice, 4))
         return TYPE_FIRST + dice_below(&generator->dice, TYPE_LAST - TYPE_FIRST + 1);
-    return types[dice_below(&generator->dice, LENGTH_OF(types))];
+    return generator->plan.types[dice_below(&generator->dice, PLAN_TYPES)];
 }
 
 uint32_t pick_awkward(struct generator *generator)
@@ -157,4 +178,10 @@ void pick_bytes(struct generator *generator, uint8_t *bytes, size_t size)
 {
     for (size_t i = 0; i < size; i++)
         bytes[i] = (uint8_t)dice_any(&generator->dice);
+}
+
+void pick_bit(struct generator *generator, uint8_t *bytes, size_t size)
+{
+    uint8_t *byte = bytes + dice_below(&generator->dice, (uint32_t)size);
+    *byte ^= (uint8_t)(1u << dice_below(&generator->dice, 8));
 }

@@ -35,11 +35,12 @@ enum {
     TYPE_LAST = 0xffff
 };
 
-/* Codes of the requests that are served. */
+/* Codes of the requests that are served, and one past all that DLPI's requests and replies have here. */
 enum {
     INFO_REQ = 0x00,
     BIND_REQ = 0x01,
     UNBIND_REQ = 0x02,
+    UNITDATA_REQ = 0x07,
     ATTACH_REQ = 0x0b,
     DETACH_REQ = 0x0c,
     CONNECT_REQ = 0x0d,
@@ -47,7 +48,8 @@ enum {
     TOKEN_REQ = 0x11,
     DISCONNECT_REQ = 0x13,
     RESET_REQ = 0x17,
-    RESET_RES = 0x19
+    RESET_RES = 0x19,
+    SMALL_CODES = 0x22
 };
 
 /* Offsets of fields in the block of a message. */
@@ -59,8 +61,9 @@ enum {
     AT_BIND_MODE = 12,
     AT_BIND_CONN_MGMT = 14,
     AT_BIND_XIDTEST = 16,
-    AT_CONNECT_LENGTH = 4,
-    AT_CONNECT_OFFSET = 8,
+    AT_ADDRESS_LENGTH = 4, /* in CONNECT_REQ and UNITDATA_REQ */
+    AT_ADDRESS_OFFSET = 8,
+    AT_DATAGRAM_PRIORITY = 12, /* two fields */
     AT_CONNECT_QOS_LENGTH = 12,
     AT_CONNECT_QOS_OFFSET = 16,
     AT_CONNECT_GROWTH = 20,
@@ -78,6 +81,7 @@ enum {
     CODE_SIZE = 4, /* of a message without fields, too */
     ATTACH_SIZE = 8,
     BIND_SIZE = 20,
+    DATAGRAM_SIZE = 20,
     CONNECT_SIZE = 24,
     ACCEPT_SIZE = 24,
     DISCONNECT_SIZE = 12

@@ -32,11 +32,25 @@ extern const struct request request_reset_answer;
 
 /* Each in a file of its own. */
 extern const struct request request_bind;
+extern const struct request request_datagram;
 extern const struct request request_connect;
 extern const struct request request_accept;
 extern const struct request request_disconnect;
 
 /* A QOS length that is not 0; CONNECT_REQ and CONNECT_RES have it at the same place. */
 change request_spoil_qos;
+
+/* request_address.c: CONNECT_REQ and UNITDATA_REQ have length and offset of an address at the same places. */
+
+/* Finishes the message with an address of so many bytes, any ones, and returns where it stands. */
+uint8_t *request_fill_address(struct generator *generator, struct record *record, unsigned size);
+
+/* Where the address of so many bytes stands, or NULL if its offset is not that of one within the message. */
+uint8_t *request_find_address(struct record *record, unsigned size);
+
+change request_spoil_address_length;
+change request_spoil_offset_to_early;
+change request_spoil_offset_to_late;
+change request_spoil_offset_to_wrapping;
 
 #endif

@@ -99,14 +99,9 @@ static void spoil_token_to_other_ppa(struct generator *generator, unsigned strea
     put_token(record, pick_stream_where(generator, is_idle_elsewhere, stream));
 }
 
-static bool is_connectionless_beside(const uint8_t *image, unsigned stream, unsigned other)
-{
-    return image_mode(image, stream) == MODE_CONNECTIONLESS && image_ppa(image, stream) == image_ppa(image, other);
-}
-
 static void spoil_token_to_connectionless(struct generator *generator, unsigned stream, struct record *record)
 {
-    put_token(record, pick_stream_where(generator, is_connectionless_beside, stream));
+    put_token(record, pick_connectionless_beside(generator, stream));
 }
 
 /* Those whose meetings with the others are rare stand more often. */

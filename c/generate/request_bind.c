@@ -34,11 +34,23 @@ static uint32_t pick_max_conind_beside(struct generator *generator, unsigned str
     return pick_max_conind(generator);
 }
 
+/* Half the time that of another connectionless stream of the PPA, so that frames come to several. */
+static unsigned pick_shared_sap(struct generator *generator, unsigned stream, unsigned otherwise)
+{
+    int beside = pick_connectionless_beside(generator, stream);
+    if (beside < 0 || dice_one_in(&generator->dice, 2))
+        return otherwise;
+    return image_sap(generator->table, (unsigned)beside);
+}
+
 static void fill_bind(struct generator *generator, unsigned stream, struct record *record)
 {
     bool with_type = dice_one_in(&generator->dice, 6);
-    bool connectionless = with_type || dice_one_in(&generator->dice, 6);
-    message_put32(record, AT_BIND_SAP, with_type ? pick_type(generator) : pick_sap(generator));
+    bool connectionless = with_type || dice_one_in(&generator->dice, generator->plan.connectionless);
+    unsigned sap = with_type ? pick_type(generator) : pick_sap(generator);
+    if (connectionless)
+        sap = pick_shared_sap(generator, stream, sap);
+    message_put32(record, AT_BIND_SAP, sap);
     message_put32(record, AT_BIND_MAX_CONIND, pick_max_conind_beside(generator, stream));
     message_put16(record, AT_BIND_MODE, connectionless ? MODE_CONNECTIONLESS : MODE_CONNECTION);
     message_finish(generator, record, BIND_SIZE);

@@ -1,4 +1,4 @@
-/* The calls of a capture: one for each record, from a fresh table. */
+/* The calls of a capture: one for each record, a datagram with its M, from a fresh table. */
 #include "calls.h"
 
 void calls_start(struct calls *calls, struct capture *capture)

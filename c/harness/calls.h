@@ -1,4 +1,4 @@
-/* The calls of a capture: one for each record, from a fresh table. */
+/* The calls of a capture: one for each record, a datagram with its M, from a fresh table. */
 #ifndef HARNESS_CALLS_H
 #define HARNESS_CALLS_H
 
@@ -15,7 +15,7 @@ struct calls {
     struct capture *capture; /* stands at the record of the last call */
     uint32_t answer;         /* to the last call */
     uint64_t refused;        /* how many were */
-    uint8_t room[KUNGTHEVI_ROOM_SIZE];
+    uint8_t room[KUNGTHEVI_FRAME_ROOM_SIZE];
     uint8_t table[KUNGTHEVI_TABLE_SIZE];
 };
 

@@ -31,14 +31,14 @@ static void read_on(struct capture *capture)
     progress_at(&capture->progress, bytes_read(capture));
 }
 
-/* Has the longest record lent, unless the capture ends before. A pipe may give its bytes in small parts. */
+/* Has all lent that a call may read, unless the capture ends before. A pipe may give its bytes in small parts. */
 static void fill(struct capture *capture)
 {
-    if (capture->lent >= LONGEST_RECORD || capture->ended)
+    if (capture->lent >= LONGEST_CALL || capture->ended)
         return;
     memmove(capture->buffer, capture->record, capture->lent);
     capture->record = capture->buffer;
-    while (capture->lent < LONGEST_RECORD && !capture->ended)
+    while (capture->lent < LONGEST_CALL && !capture->ended)
         read_on(capture);
 }
 
@@ -79,6 +79,18 @@ static bool reading_ends(const struct capture *capture)
     return capture->number > 0 && capture->lent > 0 && capture->size == 0;
 }
 
+/* Whether bytes behind those lent may belong to the record: the rest of its body, or of the M behind a datagram. */
+static bool is_unfinished(const struct capture *capture)
+{
+    uint8_t call[LONGEST_CALL] = { 0 };
+    if (capture->lent >= sizeof call)
+        return false;
+    call[LONGEST_RECORD + AT_KIND] = 'M';
+    call[LONGEST_RECORD + AT_STREAM] = capture->record[AT_STREAM];
+    memcpy(call, capture->record, capture->lent);
+    return kungthevi_record_size(call, sizeof call) > capture->lent;
+}
+
 /* A record that is not whole where a read failed is not known to be cut: it is no record of the capture's. */
 bool capture_next(struct capture *capture)
 {
@@ -89,7 +101,7 @@ bool capture_next(struct capture *capture)
     capture->place += capture->size;
     fill(capture);
     capture->size = kungthevi_record_size(capture->record, capture->lent);
-    if (capture->lent == 0 || (capture->size == 0 && capture->error != 0))
+    if (capture->lent == 0 || (capture->error != 0 && is_unfinished(capture)))
         return false;
     capture->number++;
     return true;

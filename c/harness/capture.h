@@ -13,10 +13,10 @@ enum { CAPTURE_BUFFER = 1 << 16 };
 struct capture {
     const char *name; /* for messages */
 
-    /* the record read last */
+    /* the record read last, with the M behind it where it is a datagram */
     const uint8_t *record;
-    size_t lent;     /* bytes from the record on: the whole of it, unless the capture ends in it */
-    size_t size;     /* of the record; 0 if reading ends at it, as its kind is unknown or its body cut */
+    size_t lent;     /* bytes from the record on: all that its call reads, unless the capture ends in it */
+    size_t size;     /* of what its call reads; 0 if reading ends at it, as its kind is unknown or its body cut */
     uint64_t number; /* of the record, from 1; 0 before the first */
     uint64_t place;  /* of the record's first byte in the capture, from 0 */
 

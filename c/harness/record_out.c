@@ -5,6 +5,8 @@
 
 enum { AT_FIELDS = AT_STREAM + 1 }; /* of a record that is no message */
 
+enum { LENGTH_SIZE = 1 }; /* of a length, which is a field of u and M */
+
 static size_t size_of_fields(uint8_t kind)
 {
     switch (kind) {
@@ -14,6 +16,10 @@ static size_t size_of_fields(uint8_t kind)
         return NUMBER_SIZE; /* correlation */
     case 'd':
         return 4 + 4; /* correlation, reason */
+    case 'u':
+        return LENGTH_SIZE + TYPE_ADDRESS_SIZE;
+    case 'M':
+        return LENGTH_SIZE + DATA_SIZE;
     default:
         return 0; /* F, r and s */
     }
