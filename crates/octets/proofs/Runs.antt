@@ -98,10 +98,6 @@ part-rest s at n h =
 pub part-most : (s : List ℕ) (at n : ℕ) → length (part s at n) ≤ n
 part-most s at n = omega (arith, length-take n (drop at s))
 
--- nor longer than the list
-pub part-within : (r : List ℕ) (at n : ℕ) → length (part r at n) ≤ length r
-part-within r at n = omega (arith, length-take n (drop at r), length-drop at r)
-
 -- a part that lies inside is as long as asked for
 pub part-length : (c : List ℕ) (at n : ℕ) → at + n ≤ length c → length (part c at n) ≡ n
 part-length c at n h = length-take-le n (drop at c) (omega (arith, length-drop at c))
