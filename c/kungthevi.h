@@ -175,6 +175,25 @@ uint32_t kungthevi_record_size(const uint8_t *record, size_t record_len);
 #define KUNGTHEVI_DL_NOAUTO       0x16  /* automatic XID or TEST asked */
 #define KUNGTHEVI_DL_PENDING      0x1b  /* others are open: this stream cannot carry the call itself */
 
+/*
+ * The states, as the public DLPI header numbers them. A DL_INFO_ACK (code 0x03)
+ * has one in bytes 24 to 27 of its block, never one that waits for an
+ * acknowledgement: that is given inside the call that asks for it. The table
+ * keeps states by other numbers, those of the maker's manual.
+ */
+#define KUNGTHEVI_DL_UNBOUND             0  /* attached to a PPA, not bound */
+#define KUNGTHEVI_DL_BIND_PENDING        1  /* waits for the acknowledgement of a bind */
+#define KUNGTHEVI_DL_UNBIND_PENDING      2  /* waits for the acknowledgement of an unbind */
+#define KUNGTHEVI_DL_IDLE                3  /* bound */
+#define KUNGTHEVI_DL_UNATTACHED          4  /* open, and no more */
+#define KUNGTHEVI_DL_ATTACH_PENDING      5  /* waits for the acknowledgement of an attach */
+#define KUNGTHEVI_DL_DETACH_PENDING      6  /* waits for the acknowledgement of a detach */
+#define KUNGTHEVI_DL_OUTCON_PENDING      8  /* asked the peer for a connection */
+#define KUNGTHEVI_DL_INCON_PENDING       9  /* calls rang in and are open */
+#define KUNGTHEVI_DL_DATAXFER           11  /* connected */
+#define KUNGTHEVI_DL_USER_RESET_PENDING 12  /* asked the peer for a reset */
+#define KUNGTHEVI_DL_PROV_RESET_PENDING 13  /* the peer asked for a reset */
+
 #ifdef __cplusplus
 }
 #endif

@@ -57,21 +57,15 @@ static const struct exchange wrong[] = {
     { "a datagram in mode 1 to an odd SAP", LISTENER, TO_SAP("02000000000285"), OUTSTATE },
 };
 
-static uint32_t field(const struct stage *stage, size_t place)
-{
-    const uint8_t *bytes = stage->room + AT_BLOCK + place;
-    return (uint32_t)bytes[0] << 24 | (uint32_t)bytes[1] << 16 | (uint32_t)bytes[2] << 8 | bytes[3];
-}
-
 /* As the header says: not where DL_ERROR_ACK has it. */
 static void check_place_of_error(struct checks *checks, const char *setup, uint32_t error)
 {
     struct stage stage;
     stage_set(&stage, setup);
     (void)stage_call(&stage, TO_SAP("02000000000285"));
-    check(checks, field(&stage, 0) == 0x09, "error 0x%02x is told by DL_UDERROR_IND", (unsigned)error);
-    check(checks, field(&stage, 16) == error, "error 0x%02x in bytes 16 to 19", (unsigned)error);
-    check(checks, field(&stage, 8) == 0, "error 0x%02x not in bytes 8 to 11", (unsigned)error);
+    check(checks, stage_field(&stage, 0) == 0x09, "error 0x%02x is told by DL_UDERROR_IND", (unsigned)error);
+    check(checks, stage_field(&stage, 16) == error, "error 0x%02x in bytes 16 to 19", (unsigned)error);
+    check(checks, stage_field(&stage, 8) == 0, "error 0x%02x not in bytes 8 to 11", (unsigned)error);
 }
 
 void run_datagrams(struct checks *checks)

@@ -15,5 +15,6 @@ void run_refusals(struct checks *checks);
 void run_errors(struct checks *checks);
 void run_datagrams(struct checks *checks);
 void run_frames(struct checks *checks);
+void run_states(struct checks *checks);
 
 #endif

@@ -17,6 +17,7 @@ int main(void)
     run_errors(&checks);
     run_datagrams(&checks);
     run_frames(&checks);
+    run_states(&checks);
     printf("%u passed, %u failed\n", checks.passed, checks.failed);
     return checks.failed == 0 ? 0 : 1;
 }

@@ -59,3 +59,9 @@ bool stage_is_kept(const struct stage *stage)
 {
     return stage_table_is_kept(stage) && all_are(stage->room, sizeof stage->room, ROOM_BYTE);
 }
+
+uint32_t stage_field(const struct stage *stage, size_t place)
+{
+    const uint8_t *bytes = stage->room + AT_BLOCK + place;
+    return (uint32_t)bytes[0] << 24 | (uint32_t)bytes[1] << 16 | (uint32_t)bytes[2] << 8 | bytes[3];
+}

@@ -39,6 +39,9 @@ bool stage_table_is_kept(const struct stage *stage);
 /* Whether it left the room, too, as a refusal does. */
 bool stage_is_kept(const struct stage *stage);
 
+/* The field at a place of the block of the room's first record, a message. */
+uint32_t stage_field(const struct stage *stage, size_t place);
+
 bool all_are(const uint8_t *bytes, size_t size, uint8_t byte);
 
 /* --- Records that occur often, for two PPAs of the numbers 1 and 2 */

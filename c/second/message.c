@@ -96,6 +96,28 @@ static struct binding binding_of(const struct table *table,
     return binding;
 }
 
+/* The public header's numbers of the manual's states 0 to 6. */
+static const uint32_t header_states[] = {
+    4, /* unattached */
+    5, /* attach pending */
+    6, /* detach pending */
+    0, /* unbound */
+    1, /* bind pending */
+    2, /* unbind pending */
+    3, /* idle */
+};
+
+/*
+ * INFO_ACK alone shows the public header's state numbers. From 7 on they are
+ * the manual's.
+ */
+static uint32_t header_state(uint8_t state)
+{
+    size_t count = sizeof header_states / sizeof header_states[0];
+
+    return state < count ? header_states[state] : state;
+}
+
 void second_send_info_ack(struct outcome *outcome, const struct table *table,
                           unsigned s)
 {
@@ -108,7 +130,7 @@ void second_send_info_ack(struct outcome *outcome, const struct table *table,
     add_field(&message, (uint32_t)binding.address_length);
     add_field(&message, 0); /* MAC type */
     add_field(&message, 0); /* reserved */
-    add_field(&message, stream->state);
+    add_field(&message, header_state(stream->state));
     add_field(&message, binding.sap_length);
     add_field(&message, binding.mode);
     add_field(&message, 0); /* QOS length */

@@ -12,7 +12,7 @@ enum {
     MAC_SIZE = 6
 };
 
-/* The states that stand between calls. */
+/* The states that stand between calls, by the manual's numbers. */
 enum state {
     UNATTACHED = 0,
     UNBOUND = 3,

@@ -116,6 +116,8 @@ void message(uint8_t *record, uint8_t s, uint8_t length, const char *block);
 
 /* ---- slots and messages that occur often ---- */
 
+/* Slots hold the manual's state numbers, INFO_ACK the public header's. */
+
 #define UNBOUND_SLOT "03 00 0000 00000001"
 #define IDLE_SLOT "06 01 0080 00000001 02"
 #define TYPE_SLOT "06 02 0800 00000001"
@@ -154,7 +156,7 @@ void message(uint8_t *record, uint8_t s, uint8_t length, const char *block);
 
 /* INFO_ACK of a stream bound to type 0x0800 of PPA 1 in mode 2: 90 bytes. */
 #define INFO_TYPE                                                     \
-    "00000003 000005d9 00000000 00000008 00000000 00000000 00000006" \
+    "00000003 000005d9 00000000 00000008 00000000 00000000 00000003" \
     " fffffffe 00000002 00000000 00000000 00000000 00000000 00000501" \
     " 0000004c 00000002 00000006 00000054 00000000 0200000000010800" \
     " ffffffffffff"

@@ -69,7 +69,7 @@ static void test_measured_info(struct bench *b)
     b->topic = "measured examples, INFO_REQ";
     start_fresh(b);
     serve_open(b, 0);
-    serve(b, "P 0 00000000", "C 0 " INFO_UNBOUND("00000000"));
+    serve(b, "P 0 00000000", "C 0 " INFO_UNBOUND("00000004"));
     same_table(b, "unattached");
     check(b, room_of(b)[2] == 82, "unattached: L 82");
 
@@ -80,7 +80,7 @@ static void test_measured_info(struct bench *b)
           " 02000000000180");
     put_open(b->want, 0, IDLE_SLOT);
     same_table(b, "bound to 0x80");
-    serve(b, "P 0 00000000", "C 0 " INFO_BOUND("00000006"));
+    serve(b, "P 0 00000000", "C 0 " INFO_BOUND("00000003"));
     check(b, room_of(b)[2] == 89, "bound to 0x80: L 89");
 
     start(b);

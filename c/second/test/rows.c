@@ -51,10 +51,10 @@ static const char *const request_messages[] = {
 };
 
 static const struct row request_rows[] = {
-    { INFO_MESSAGE, "00", "C 2 " INFO_UNBOUND("00000000"), "00" },
-    { INFO_MESSAGE, UNBOUND_SLOT, "C 2 " INFO_UNBOUND("00000003"),
+    { INFO_MESSAGE, "00", "C 2 " INFO_UNBOUND("00000004"), "00" },
+    { INFO_MESSAGE, UNBOUND_SLOT, "C 2 " INFO_UNBOUND("00000000"),
       UNBOUND_SLOT },
-    { INFO_MESSAGE, IDLE_SLOT, "C 2 " INFO_BOUND("00000006"), IDLE_SLOT },
+    { INFO_MESSAGE, IDLE_SLOT, "C 2 " INFO_BOUND("00000003"), IDLE_SLOT },
     { INFO_MESSAGE, TYPE_SLOT, "C 2 " INFO_TYPE, TYPE_SLOT },
     { INFO_MESSAGE, CALLING_SLOT, "C 2 " INFO_BOUND("00000008"),
       CALLING_SLOT },

@@ -5,7 +5,7 @@ use mathlib.Core.List.{_++_, map}
 use Prim.Native.Nat.{ℕ}
 use lib.ListN.{getD, take}
 use Rattle.ledger.specs.Choice.{_⇒_∣_}
-use Rattle.paper.specs.Base.{stateOf, fresh, lowestFree, knows, macOf, withSlot, withNumbers, withStream, withCounter, withPpa, remembering}
+use Rattle.paper.specs.Base.{stateOf, headerNumber, fresh, lowestFree, knows, macOf, withSlot, withNumbers, withStream, withCounter, withPpa, remembering}
 use Rattle.paper.specs.Correlations.{occurrences, nextNumber}
 use Rattle.paper.specs.Sight.{carrierOf, answerTo}
 use Rattle.paper.specs.StateRows.{found}
@@ -23,7 +23,7 @@ use Rattle.paper.specs.Step.{conclude, comes, ofOpen, message, arrives, 
 use Rattle.paper.specs.Examples.{Case, dueOf, cameOf, leadUp, onTheWay, starred, standsAfter}
 
 pub starred-hold : map cameOf (leadUp ++ starred) ≡ map dueOf (leadUp ++ starred)
-unfolding _⇒_∣_ stateOf lowestFree knows macOf withSlot withNumbers withStream withCounter withPpa remembering occurrences nextNumber
+unfolding _⇒_∣_ stateOf headerNumber lowestFree knows macOf withSlot withNumbers withStream withCounter withPpa remembering occurrences nextNumber
     carrierOf answerTo found changed carried enacted ordersIn behindReply upsIn told effectOf eventEffect judgeAttach judgeListening
     judgeBind judgeConnect judgeOther judgeItself judgeCarrier judgeAccept judgeDenial judgeDisconnect judgeRequest effectBy decideBy
     otherCode primitiveOf sized askedBy addsPpa opens goodbyes closes kindOf recordSize wantsData hasData isPair hasNonzeroPast sapAt pairAs messageAs frameAs inputOf inOrder addressOf infoOf

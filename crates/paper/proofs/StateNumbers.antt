@@ -1,15 +1,16 @@
 -- The states and their numbers: each state has its own, and what a list of states says of one is computed for the eight.
-use Prim.Native.Nat.{ℕ, _<_, zero, suc, _+_}
+use Prim.Native.Nat.{ℕ, _<_, _≤_, zero, suc, _+_}
 use native.Mathlib.Omega.{arith}
 use mathlib.Core.Path.{_≡_, refl, sym, _∙_, ap}
 use mathlib.Core.Bool.{true, false, not, Bool}
+use mathlib.Core.List.{[], _∷_, map}
 use lib.Dec.{eqb, leb, ltb, eqb·suc-zero}
 use borrow.Author.Tests.{not-true, eqb-true, ne-eqb}
 use Rattle.ledger.specs.Choice.{_⇒_∣_, pick, either}
 use Rattle.ledger.specs.Tally.{has, oneIf, occ}
 use Rattle.ledger.proofs.Sums.{among}
 use Rattle.ledger.proofs.Tallies.{chosen}
-use Rattle.paper.specs.Base.{numberOf, everyState, boundStates, connectionStates, stateOf, noStream, attachedIn, inState, settled, callingStates, joinedStates}
+use Rattle.paper.specs.Base.{numberOf, headerNumber, everyState, boundStates, connectionStates, stateOf, noStream, attachedIn, inState, settled, callingStates, joinedStates}
 use Rattle.paper.specs.declared.State.{State}
 use Rattle.paper.specs.declared.State.the-variants.{Unattached, Unbound, Idle, OutconPending, InconPending, DataXfer, UserResetPending, ProvResetPending}
 use Rattle.paper.specs.declared.Stream.{Stream}
@@ -70,6 +71,30 @@ state-told n =
 pub in-zero : (q : State) → numberOf q ≡ 0 → q ≡ Unattached
 unfolding stateOf _⇒_∣_
 in-zero q e = sym (state-back q) ∙ ap stateOf e
+
+-- ---- the public header's numbers
+
+-- document 02's, read a second time in the manual's order
+pub below-seven : map headerNumber (0 ∷ 1 ∷ 2 ∷ 3 ∷ 4 ∷ 5 ∷ 6 ∷ []) ≡ 4 ∷ 5 ∷ 6 ∷ 0 ∷ 1 ∷ 2 ∷ 3 ∷ []
+unfolding headerNumber _⇒_∣_
+below-seven = refl
+
+-- from 7 on both agree
+pub from-seven : (n : ℕ) → 7 ≤ n → headerNumber n ≡ n
+unfolding headerNumber _⇒_∣_
+from-seven n h =
+    simp (
+      past 3 (omega arith),
+      past 4 (omega arith),
+      past 5 (omega arith),
+      past 6 (omega arith),
+      past 0 (omega arith),
+      past 1 (omega arith),
+      past 2 (omega arith),
+    )
+  where
+    past : (k : ℕ) → k < 7 → eqb n k ≡ false
+    past k j = ne-eqb n k (λ e. omega arith)
 
 -- ---- the lists of states: as the code tests them, and against each other
 

@@ -39,6 +39,18 @@ stateOf n =
     ∣ eqb n 13 ⇒ ProvResetPending
     ∣ Unattached
 
+-- Document 02: a state's number in the public DLPI header, for its number in the manual's state table.
+unfoldable pub headerNumber : ℕ → ℕ
+headerNumber n =
+    eqb n 3 ⇒ 0  -- unbound
+    ∣ eqb n 4 ⇒ 1  -- bind pending
+    ∣ eqb n 5 ⇒ 2  -- unbind pending
+    ∣ eqb n 6 ⇒ 3  -- idle
+    ∣ eqb n 0 ⇒ 4  -- unattached
+    ∣ eqb n 1 ⇒ 5  -- attach pending
+    ∣ eqb n 2 ⇒ 6  -- detach pending
+    ∣ n  -- from 7 on both agree
+
 abbrev pub number : Stream → ℕ
 number s = numberOf (s .state)
 

@@ -70,12 +70,12 @@ acceptMessage n = P 24 (flat (0x0f ∷ n ∷ 0 ∷ 0 ∷ 0 ∷ 0 ∷ []))
 -- broadcast offset, 0; then the address if bound, then six bytes of 0xff.
 abbrev infoAckUnattached : List ℕ
 infoAckUnattached =
-    C 82 (flat (0x03 ∷ 1497 ∷ 0 ∷ 0 ∷ 0 ∷ 0 ∷ 0 ∷ 0 ∷ 3 ∷ 0 ∷ 0 ∷ 0 ∷ 0 ∷ 0x0501 ∷ 0 ∷ 2 ∷ 6 ∷ 76 ∷ 0 ∷ []) ++ replicate 6 0xff)
+    C 82 (flat (0x03 ∷ 1497 ∷ 0 ∷ 0 ∷ 0 ∷ 0 ∷ 4 ∷ 0 ∷ 3 ∷ 0 ∷ 0 ∷ 0 ∷ 0 ∷ 0x0501 ∷ 0 ∷ 2 ∷ 6 ∷ 76 ∷ 0 ∷ []) ++ replicate 6 0xff)
 
 abbrev infoAckBound : List ℕ
 infoAckBound =
     C 89
-    (flat (0x03 ∷ 1497 ∷ 0 ∷ 7 ∷ 0 ∷ 0 ∷ 6 ∷ 0xffffffff ∷ 1 ∷ 0 ∷ 0 ∷ 0 ∷ 0 ∷ 0x0501 ∷ 76 ∷ 2 ∷ 6 ∷ 83 ∷ 0 ∷ []) ++ own ++ replicate 6 0xff)
+    (flat (0x03 ∷ 1497 ∷ 0 ∷ 7 ∷ 0 ∷ 0 ∷ 3 ∷ 0xffffffff ∷ 1 ∷ 0 ∷ 0 ∷ 0 ∷ 0 ∷ 0x0501 ∷ 76 ∷ 2 ∷ 6 ∷ 83 ∷ 0 ∷ []) ++ own ++ replicate 6 0xff)
 
 -- SAP, address length, offset 24, max_conind, xidtest 0; address
 abbrev bindAck : ℕ → List ℕ
@@ -174,7 +174,7 @@ onTheWay = fresh ∷ map (λ (x : Case). x .due .table) leadUp
 
 abbrev pub starred : List Case
 starred =
-    -- INFO_REQ unattached: state field 0, L 82. Bound to 0x80: L 89.
+    -- INFO_REQ unattached: state field 4 (document 02), L 82. Bound to 0x80: L 89.
     record { before = unattached; lent = infoMessage; room = 128; due = writes infoAckUnattached unattached }
     ∷ record { before = boundStream 2; lent = infoMessage; room = 128; due = writes infoAckBound (boundStream 2) }
     -- SAP 0x81, 0x5ff: BADADDR.

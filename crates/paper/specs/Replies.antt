@@ -6,7 +6,7 @@ use lib.ListN.{replicate}
 use lib.Dec.{ltb}
 use Rattle.ledger.specs.Choice.{pick}
 use Rattle.octets.specs.Blocks.{flat}
-use Rattle.paper.specs.Base.{macSize, addressSize, lengthOf, number, isAmong, toldStates}
+use Rattle.paper.specs.Base.{macSize, addressSize, lengthOf, number, headerNumber, isAmong, toldStates}
 use Rattle.paper.specs.declared.Form.{Form}
 use Rattle.paper.specs.declared.Stream.{Stream}
 use Rattle.paper.specs.declared.Reply.{Reply}
@@ -35,12 +35,12 @@ infoFields state address sap mode offset =
     1497 ∷ 0 ∷ address ∷ 0 ∷ 0 ∷ state ∷ sap ∷ mode ∷ 0 ∷ 0 ∷ 0 ∷ 0 ∷ 0x0501 ∷ offset ∷ 2 ∷ 6 ∷ (76 + address) ∷ 0 ∷ []
 
 -- Unbound: address length, SAP length and address offset 0, mode 3. Bound: address offset 76, the SAP length is minus 1 or
--- minus 2 in two's complement, the bound mode.
+-- minus 2 in two's complement, the bound mode. The state is by its number in the public header (document 02).
 unfoldable pub infoOf : Stream → List ℕ
 infoOf s =
     pick (isAmong toldStates s)
-    (infoFields (number s) (addressLength (s .sap)) (2 ^ 32 - sapLength (s .sap)) (s .mode) 76)
-    (infoFields (number s) 0 0 3 0)
+    (infoFields (headerNumber (number s)) (addressLength (s .sap)) (2 ^ 32 - sapLength (s .sap)) (s .mode) 76)
+    (infoFields (headerNumber (number s)) 0 0 3 0)
 
 -- then the address if bound, then six bytes of 0xff
 unfoldable pub infoTail : List ℕ → Stream → List ℕ

@@ -4,7 +4,7 @@ mod kinds;
 mod states;
 
 ghost use mathlib.Core.Path.{_≡_};
-ghost use Rattle.paper.specs.Base.{numberOf, stateOf};
+ghost use Rattle.paper.specs.Base.{numberOf, stateOf, headerNumber};
 pub use addresses::form_in;
 pub use addresses::form_of;
 pub use addresses::length_of;
@@ -117,6 +117,22 @@ pub fn state_of(n: u8) -> State
         12 => State::UserResetPending,
         13 => State::ProvResetPending,
         _ => State::Unattached,
+    }
+}
+
+// A state's number in the public DLPI header.
+pub fn header_number(q: State) -> u8
+    ensures { λ r. ⌜ r ≡ headerNumber (numberOf q) ⌝ }
+{
+    match q {
+        State::Unattached => 4,
+        State::Unbound => 0,
+        State::Idle => 3,
+        State::OutconPending => 8,
+        State::InconPending => 9,
+        State::DataXfer => 11,
+        State::UserResetPending => 12,
+        State::ProvResetPending => 13,
     }
 }
 

@@ -7,7 +7,7 @@ ghost use lib.ListN.{length};
 ghost use Rattle.ledger.specs.Choice.{pick};
 ghost use Rattle.octets.specs.Blocks.{flat, pad, padTo};
 ghost use Rattle.octets.specs.Writing.{Wrote, WroteMost};
-ghost use Rattle.paper.specs.Base.{mostAddress, lengthOf, isAmong, toldStates};
+ghost use Rattle.paper.specs.Base.{mostAddress, lengthOf, number, headerNumber, isAmong, toldStates};
 ghost use Rattle.paper.specs.RecordsIn.{messageSize, dataSize, pairSize};
 ghost use Rattle.paper.specs.RecordsOut.{order, up, datum, bytesOf, allBytes, flushIf, messageBytes};
 ghost use Rattle.paper.specs.RecordsOut.{startSize, connectSize, acceptSize, disconnectSize, unitdataSize};
@@ -151,6 +151,14 @@ fn is_told(q: Stream) -> bool
     paper::tells_binding(state)
 }
 
+// The stream's state by its number in the public header.
+fn shown_state(q: Stream) -> u8
+    ensures { λ r. ⌜ r ≡ headerNumber (number q) ⌝ }
+{
+    let state = q.state;
+    paper::header_number(state)
+}
+
 // 1 byte of SAP or 2 of Ethernet type.
 fn sap_length(sap: u16) -> u32
     ensures { λ r. ⌜ SapTakes sap r ⌝ }
@@ -208,17 +216,16 @@ fn put_info(room: &mut [u8], s: u8, q: Stream, tail: &[u8]) -> usize
     requires { ⌜ Behind (now tail) (now room) ⌝ }
     ensures { λ n. ⌜ WroteMost messageSize (bytesOf (up s (Reply.InfoAck q) (now (tail .entry)))) 0 n (now (room .entry)) (now (room .exit)) ⌝ }
 {
-    let state = q.state;
-    let number = paper::number_of(state);
+    let state = shown_state(q);
     if !is_told(q) {
-        return put_info_fields(room, s, number, 0, 0, 3, 0, tail);
+        return put_info_fields(room, s, state, 0, 0, 3, 0, tail);
     }
     let size = sap_length(q.sap);
     let minus = 0xffffffff - size + 1;
     put_info_fields(
         room,
         s,
-        number,
+        state,
         MAC_SIZE as u32 + size,
         minus,
         q.mode,

@@ -30,10 +30,10 @@ returns c =
     let message = c .before .before in
     let tested = message .before .before in
     let bound = tested .before .is-told in
-    let n = tested .before .before .number-of in
+    let state = tested .before .before .shown-state in
     let a = tested .before .before .before .before .before .args in
-    let e : infoFields (n .result) 0 0 3 0 ≡ infoOf (a .q) =
-    simp (sym (bound .ensures) ∙ not-true (bound .result) (tested .if1 .taken), n .ensures) in
+    let e : infoFields (state .result) 0 0 3 0 ≡ infoOf (a .q) =
+    simp (sym (bound .ensures) ∙ not-true (bound .result) (tested .if1 .taken), state .ensures) in
     wrote-same (told (a .s) (a .q) (now (a .tail)) e) (message .put-info-fields .ensures)
 
 returns-2 : tie.Need-returns-2
@@ -44,12 +44,12 @@ returns-2 c =
     let size = measured .sap-length in
     let tested = measured .before in
     let bound = tested .before .is-told in
-    let n = tested .before .before .number-of in
+    let state = tested .before .before .shown-state in
     let a = tested .before .before .before .before .before .args in
     let known : size .result ≡ sapLength (a .q .sap) = size .ensures .exactly in
     let minus : 4294967295 - sapLength (a .q .sap) + 1 ≡ 2 ^ 32 - sapLength (a .q .sap) = omega arith in
-    let e : infoFields (n .result) (macSize + size .result) (4294967295 - size .result + 1) (a .q .mode) 76 ≡ infoOf (a .q) =
-    simp (sym (bound .ensures) ∙ not-false (bound .result) (tested .if1 .left), n .ensures, known, minus) in
+    let e : infoFields (state .result) (macSize + size .result) (4294967295 - size .result + 1) (a .q .mode) 76 ≡ infoOf (a .q) =
+    simp (sym (bound .ensures) ∙ not-false (bound .result) (tested .if1 .left), state .ensures, known, minus) in
     wrote-same (told (a .s) (a .q) (now (a .tail)) e) (message .put-info-fields2 .ensures)
 
 pub put-info-spec : {M : Type 1} → statement M
