@@ -1,4 +1,4 @@
-/* Every state of the header, by a stream that stands so: DL_INFO_ACK shows it, and the table keeps the manual's number. */
+/* The header's states, by streams that stand so: DL_INFO_ACK shows each, and the table keeps the manual's number. */
 #include <assert.h>
 
 #include "../layout.h"
@@ -31,7 +31,7 @@ static const struct standing standings[] = {
     { NAMED(KUNGTHEVI_DL_UNATTACHED), 0, BOARD "P 00 04 00000002; P 00 04 0000000c;" },
 };
 
-/* No stream shows one of these. */
+/* No stream stands in one of these. */
 static_assert(KUNGTHEVI_DL_BIND_PENDING == 1 && KUNGTHEVI_DL_UNBIND_PENDING == 2, "as the public header has them");
 static_assert(KUNGTHEVI_DL_ATTACH_PENDING == 5 && KUNGTHEVI_DL_DETACH_PENDING == 6, "as the public header has them");
 
