@@ -1,5 +1,8 @@
 // The C face: numbers and byte slices only, and nothing asked of the caller. A slice is a pointer and a length.
+mod saps;
+
 ghost use mathlib.Core.Path.{_≡_};
+ghost use Rattle.paper.specs.Exclusions.{sapTelling};
 ghost use Rattle.paper.specs.RecordsIn.{recordSize};
 ghost use Rattle.call_outcomes.specs.Leaving.{left, callOf};
 ghost use Rattle.call_outcomes.specs.Fresh.{made, freshOf};
@@ -34,4 +37,13 @@ pub extern "C" fn kungthevi_record_size(bytes: &[u8]) -> u32
     ensures { λ n. ⌜ n ≡ recordSize (now (bytes .entry)) ⌝ }
 {
     wire_records::record_size(bytes) as u32
+}
+
+// Whether a bind could take a number of a SAP field: in bits 0 to 7 the bytes that it takes in an address, 0 if it is excluded; in 8
+// to 15 the exclusion that holds, in 16 to 23 the manual's place that makes it.
+#[no_mangle]
+pub extern "C" fn kungthevi_sap(number: u32) -> u32
+    ensures { λ n. ⌜ n ≡ sapTelling number ⌝ }
+{
+    saps::sap_telling(number)
 }

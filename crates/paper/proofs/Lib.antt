@@ -14,6 +14,7 @@ pub mod Room
 pub mod Effects
 pub mod StateNumbers
 pub mod Saps
+pub mod Exclusions
 pub mod SoundTests
 pub mod StateTable
 pub mod RowFound

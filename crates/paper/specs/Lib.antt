@@ -9,6 +9,7 @@ pub mod Messages
 pub mod Replies
 pub mod ErrorCodes
 pub mod Saps
+pub mod Exclusions
 pub mod StateRows
 pub mod Sight
 pub mod Datagrams

@@ -136,6 +136,41 @@ pub fn header_number(q: State) -> u8
     }
 }
 
+// Why no bind can take a number.
+pub enum Reason {
+    OddSap,
+    ReservedSap,
+    BetweenSapsAndTypes,
+    AboveTypes,
+}
+
+// The manual's places that say so.
+pub enum Place {
+    Binding,
+    ReservedSapsAndTypes,
+}
+
+// Of the numbers from one to another.
+pub enum Which {
+    Odd,
+    All,
+}
+
+// An exclusion: no bind can take these of the numbers from the first to the last.
+pub struct Exclusion {
+    pub reason: Reason,
+    pub which: Which,
+    pub first: u32,
+    pub last: u32,
+    pub place: Place,
+}
+
+// The exclusion that holds of a number.
+pub enum Excluded {
+    By(Exclusion),
+    Not,
+}
+
 // A stream, but for the numbers of its open indications. What it does not hold is zero.
 pub struct Stream {
     pub state: State,

@@ -1,12 +1,14 @@
 // The order of errors by value: what it asks of the table is handed to it; and a stream by value, as it stands after a row.
 mod datagrams;
 mod errors;
+mod exclusions;
 mod order;
 mod saps;
 mod streams;
 
 pub use datagrams::judge_datagram;
 pub use errors::error_of;
+pub use exclusions::excluded_by;
 pub use order::judge_accept;
 pub use order::judge_attach;
 pub use order::judge_bind;

@@ -2,30 +2,28 @@
 ghost use mathlib.Core.Path.{_≡_};
 ghost use Rattle.ledger.specs.Choice.{either};
 ghost use Rattle.paper.specs.Saps.{isSap, isType, grantOf, asBindAllows};
+use crate::exclusions::none_excludes;
 use paper::MOST_OPEN;
 use paper::Stream;
 
-// An even number under 256. RFC 1010, to which the manual refers, reserves one of them.
+// A SAP: a number under 256, and no exclusion holds.
 pub fn is_sap(n: u32) -> bool
     ensures { λ r. ⌜ r ≡ isSap n ⌝ }
 {
-    if 256 <= n {
-        return false;
-    }
-    n % 2 == 0 && n != 0x06
+    n < 256 && none_excludes(n)
 }
 
-// An Ethernet type. None is reserved.
+// An Ethernet type: any other number, and no exclusion holds.
 pub fn is_type(n: u32) -> bool
     ensures { λ r. ⌜ r ≡ isType n ⌝ }
 {
-    0x600 <= n && n <= 0xffff
+    256 <= n && none_excludes(n)
 }
 
 pub fn is_sap_or_type(n: u32) -> bool
     ensures { λ r. ⌜ r ≡ either (isSap n) (isType n) ⌝ }
 {
-    is_sap(n) || is_type(n)
+    none_excludes(n)
 }
 
 // The smaller of the count asked and the most that a stream can hold; in mode 2 none.

@@ -1,18 +1,15 @@
--- The two bounds are the paper's, and no type is reserved.
-use borrow.Author.Tests.{lt-leb, le-leb}
-use lib.Dec.{leb}
-use Rattle.paper.specs.Saps.{isType}
-use Rattle.ledger.proofs.Tallies.{both-true}
+-- A type is a number from 256 on of which no exclusion holds.
+use borrow.Author.Tests.{le-leb, lt-leb}
+use Rattle.paper.proofs.Exclusions.{tied}
+use borrow.Author.Needs.{needs}
 use Rattle.paper_rules.proofs.saps.is_type.Statement.{statement}
 use Rattle.paper_rules.proofs.saps.is_type.Tie as tie
 
 returns : tie.Need-returns
-unfolding isType
-returns c = simp (le-leb _ _ (c .if1 .taken), both-true (leb (c .before .args .n) 0xffff))
+returns c = rw (tied (c .before .before .args .n) (search needs) .aType, le-leb _ _ (c .before .if1 .taken)) (c .none-excludes .ensures)
 
 returns-2 : tie.Need-returns-2
-unfolding isType
-returns-2 c = simp (lt-leb _ _ (c .if1 .left))
+returns-2 c = rw (tied (c .before .args .n) (search needs) .aType, lt-leb _ _ (c .if1 .left))
 
 pub is-type-spec : {M : Type 1} → statement M
-is-type-spec = tie.close (tie.spec returns returns-2)
+is-type-spec = tie.close (tie.spec (λ c κs. search needs) returns returns-2)
