@@ -33,7 +33,7 @@ REPLAY = target/run/replay
 FATES = target/run/fates
 CAPTURES = $(patsubst captures/%.records,target/captures/%,$(wildcard captures/*.records))
 
-.PHONY: all check demo replay fates lib run c sanitized captures tested test entries example texts alike harness selftest \
+.PHONY: all check demo replay fates lib run c sanitized captures tested test entries example texts alike saps harness selftest \
 	paper definitions coverage compare bench instructions install uninstall clean
 
 all: c captures
@@ -168,9 +168,10 @@ entries: target/c/entries target/c/sanitized/entries target/c/include
 example: lib target/c/kungthevi captures
 texts: run target/c/second target/c/sanitized/second captures
 alike: run target/c/kungthevi target/c/second target/c/generate
+saps: target/c/kungthevi target/c/second
 harness: target/c/kungthevi target/c/sanitized/kungthevi target/c/second target/c/generate captures
 selftest: target/c/selftest target/c/sanitized/selftest
-entries example texts alike harness selftest paper:
+entries example texts alike saps harness selftest paper:
 	tools/tests $@
 
 # the named captures by the definitions: a matter of the checker's, and no test of the C side

@@ -89,6 +89,7 @@ void counts_print(const struct counts *counts)
            counts->wrong_datagrams, counts->datagrams_cut);
     printf("frames to no stream: %" PRIu64 ", to one: %" PRIu64 ", to several: %" PRIu64 "\n", counts->frames[0],
            counts->frames[1], frames_to_several(counts));
+    printf("numbers of a SAP field: %" PRIu64 "\n", counts->numbers);
     printf("forms of captures: %" PRIu64 "\n", counts->forms);
     printf("counters moved on the way: %" PRIu64 "\n", counts->counters_moved);
     printf("damaged images: %" PRIu64 " refused, %" PRIu64 " not\n", counts->damaged_refused, counts->damaged_taken);

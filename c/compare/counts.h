@@ -21,6 +21,7 @@ enum {
 };
 
 struct counts {
+    uint64_t numbers; /* of a SAP field */
     uint64_t captures;
     uint64_t forms;
     uint64_t calls;

@@ -1,13 +1,14 @@
 /* compare [-d DIR] [CALLS [SEED]]: compares the library with the second program, call by call.
  *
- * The captures of the seeds from SEED on, and changed forms of them, are played to both until CALLS calls are compared:
- * 1000000 from seed 1 if not told otherwise. A difference is printed, and the capture that leads to it is written to a
+ * First what both tell of the numbers of a SAP field. Then the captures of the seeds from SEED on, and changed forms of
+ * them, are played to both until CALLS calls are compared: 1000000 from seed 1 if not told otherwise. A difference is printed, and the capture that leads to it is written to a
  * file in DIR, or where the program runs. The exit status is 1 after any, and if enough calls left out something that
  * they must reach. */
 #include <stdio.h>
 #include <string.h>
 
 #include "../generate/number.h"
+#include "saps.h"
 #include "seeds.h"
 
 enum {
@@ -36,6 +37,7 @@ int main(int argc, char **argv)
         fprintf(stderr, "usage: compare [-d DIR] [CALLS [SEED]]\n");
         return BAD_ARGUMENTS;
     }
+    saps_compare(&comparison);
     seeds_compare(&comparison);
     counts_print(&comparison.counts);
     bool reached = comparison.counts.calls < ENOUGH_FOR_ALL || counts_are_full(&comparison.counts);

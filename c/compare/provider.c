@@ -24,8 +24,8 @@ enum { GUARD_OF_SECOND = GUARD };
 #endif
 
 const struct provider providers[PROVIDERS] = {
-    [LIBRARY] = { "library", GUARD, kungthevi_fresh, kungthevi_call, kungthevi_record_size },
-    [SECOND] = { "second", GUARD_OF_SECOND, second_fresh, second_call, second_record_size },
+    [LIBRARY] = { "library", GUARD, kungthevi_fresh, kungthevi_call, kungthevi_record_size, kungthevi_sap },
+    [SECOND] = { "second", GUARD_OF_SECOND, second_fresh, second_call, second_record_size, second_sap },
 };
 
 bool lending_is_frame(const struct lending *lending)

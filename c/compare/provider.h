@@ -21,6 +21,7 @@ struct provider {
     uint32_t (*call)(uint8_t *table, size_t table_len, const uint8_t *record, size_t record_len, uint8_t *room,
                      size_t room_len);
     uint32_t (*record_size)(const uint8_t *record, size_t record_len);
+    uint32_t (*sap)(uint32_t number);
 };
 
 enum {

@@ -16,5 +16,6 @@ void run_errors(struct checks *checks);
 void run_datagrams(struct checks *checks);
 void run_frames(struct checks *checks);
 void run_states(struct checks *checks);
+void run_saps(struct checks *checks);
 
 #endif

@@ -18,6 +18,7 @@ int main(void)
     run_datagrams(&checks);
     run_frames(&checks);
     run_states(&checks);
+    run_saps(&checks);
     printf("%u passed, %u failed\n", checks.passed, checks.failed);
     return checks.failed == 0 ? 0 : 1;
 }

@@ -9,16 +9,18 @@
 #include "fates.h"
 #include "message.h"
 #include "replay.h"
+#include "sap.h"
 #include "status.h"
 #include "text.h"
 
 static const char help[] =
     "usage: kungthevi replay [FILE..]\n"
     "       kungthevi fates [FILE..]\n"
+    "       kungthevi sap NUMBER..\n"
     "       kungthevi --help\n"
     "\n"
-    "Answers the calls of a capture as a correct DLPI provider does. The answers come from a\n"
-    "library that is proved to follow the rule paper.\n"
+    "Answers the calls of a capture as a correct DLPI provider does, and tells which numbers a\n"
+    "bind can take. The answers come from a library that is proved to follow the rule paper.\n"
     "\n"
     "A capture holds the rule paper's input records right behind one another. Each FILE is a\n"
     "capture of its own; without one, or where it is -, the capture is standard input.\n"
@@ -63,27 +65,36 @@ static const char help[] =
     "  The line of a call comes when it ends, that of an opening when its stream is opened again\n"
     "  or the capture ends; the calls still open come then too, before their opening.\n"
     "\n"
+    "kungthevi sap NUMBER..\n"
+    "  Prints of each NUMBER, in decimal or behind 0x in hex, what it is in the SAP field of a bind.\n"
+    "\n"
+    "    0x80 SAP                 a bind can take it; so can a datagram's address, in one byte\n"
+    "    0x0800 type              likewise, in two bytes, but no bind in mode 1\n"
+    "    0x06 excluded: reserved, by RFC 1010 (manual, 'Reserved IEEESAPS/Ethertypes')\n"
+    "                             neither can: why, and the section of the maker's manual\n"
+    "\n"
     "Several FILEs print one text behind the other, in their order. A FILE that cannot be read\n"
     "prints no text, one that cannot be read to its end no last line, and of fates no line of\n"
     "what is still open; the others are printed all the same.\n"
     "\n"
     "Exit status\n"
-    "  0  every record was served\n"
-    "  1  some record was refused\n"
-    "  2  bad usage, a FILE that cannot be read, output that cannot be written, or an answer that\n"
-    "     breaks the rule paper\n"
+    "  0  every record was served, no NUMBER is excluded\n"
+    "  1  some record was refused, some NUMBER is excluded\n"
+    "  2  bad usage, a FILE that cannot be read, a NUMBER that is none, output that cannot be\n"
+    "     written, or an answer that breaks the rule paper\n"
     "\n"
     "Where standard error is a terminal and standard output is not, it shows how far the reading\n"
     "of a capture over 4 MB has come.\n";
 
 struct command {
     const char *name;
-    enum status (*run)(struct text *text, char *const *files, size_t count);
+    enum status (*run)(struct text *text, char *const *words, size_t count);
 };
 
 static const struct command commands[] = {
     { "replay", replay },
     { "fates", fates },
+    { "sap", sap },
 };
 
 static const struct command *command_of_name(const char *name)
@@ -116,10 +127,10 @@ static enum status bad_usage(const char *what, const char *word)
     return STATUS_FAILED;
 }
 
-/* Options may stand anywhere before "--"; behind it each word is a file. */
+/* Options may stand anywhere before "--"; behind it each word is a file, or a number. */
 static enum status run_command(struct text *text, const struct command *command, char **words, size_t count)
 {
-    size_t files = 0;
+    size_t kept = 0;
     bool options = true;
     for (size_t i = 0; i < count; i++) {
         if (options && asks_for_help(words[i]))
@@ -129,9 +140,9 @@ static enum status run_command(struct text *text, const struct command *command,
         else if (options && is_option(words[i]))
             return bad_usage("unknown option ", words[i]);
         else
-            words[files++] = words[i];
+            words[kept++] = words[i];
     }
-    return command->run(text, words, files);
+    return command->run(text, words, kept);
 }
 
 static enum status run(struct text *text, int argc, char **argv)

@@ -2,9 +2,11 @@
 #ifndef ENDING_H
 #define ENDING_H
 
-/* A text that did not end with DONE has no last line. */
+/* A text that ended where something failed has no last line. */
 enum ending {
     DONE,
+    SOME_EXCLUDED, /* of the numbers asked about */
+    NO_NUMBER,     /* something asked about is none, or nothing is asked */
     READING_FAILED,
     WRITING_FAILED,
     PROVIDER_FAILED /* it wrote what the text has no place for */

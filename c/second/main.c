@@ -1,5 +1,6 @@
-/* main.c - the commands, from standard input to standard output. */
+/* main.c - the commands, on the standard streams. */
 #include <signal.h>
+#include <stdbool.h>
 #include <stddef.h>
 #include <stdio.h>
 #include <string.h>
@@ -7,25 +8,53 @@
 #include "ending.h"
 #include "fates.h"
 #include "replay.h"
+#include "saps.h"
+
+/* The exit statuses. */
+enum {
+    SUCCEEDED = 0,
+    EXCLUDED = 1,
+    FAILED = 2
+};
 
 struct command {
     const char *word;
-    enum ending (*print)(FILE *in, FILE *out);
+    bool takes_words; /* behind its own */
+    enum ending (*run)(char *const argv[]);
 };
 
+static enum ending run_replay(char *const argv[])
+{
+    (void)argv;
+    return second_replay(stdin, stdout);
+}
+
+static enum ending run_fates(char *const argv[])
+{
+    (void)argv;
+    return second_fates(stdin, stdout);
+}
+
+static enum ending run_sap(char *const argv[])
+{
+    return second_saps(argv + 2, stdout, stderr);
+}
+
 /* Without a word it is the first. NULL if there is no such command. */
-static const struct command *find_command(int argc, char **argv)
+static const struct command *find_command(int argc, char *const argv[])
 {
     static const struct command commands[] = {
-        { "replay", second_replay },
-        { "fates", second_fates },
+        { "replay", false, run_replay },
+        { "fates", false, run_fates },
+        { "sap", true, run_sap },
     };
     size_t count = sizeof commands / sizeof commands[0];
 
     if (argc <= 1)
         return &commands[0];
-    for (size_t i = 0; argc == 2 && i < count; i++)
-        if (strcmp(argv[1], commands[i].word) == 0)
+    for (size_t i = 0; i < count; i++)
+        if (strcmp(argv[1], commands[i].word) == 0
+            && (argc == 2 || commands[i].takes_words))
             return &commands[i];
     return NULL;
 }
@@ -45,23 +74,36 @@ static const char *failure_of(enum ending ending)
     }
 }
 
+static int status_of(enum ending ending)
+{
+    switch (ending) {
+    case DONE:
+        return SUCCEEDED;
+    case SOME_EXCLUDED:
+        return EXCLUDED;
+    default:
+        return FAILED;
+    }
+}
+
 int main(int argc, char **argv)
 {
-    const int failed = 2;
     const struct command *command = find_command(argc, argv);
+    enum ending ending;
     const char *failure;
 
     if (command == NULL) {
-        fputs("usage: second [replay | fates] < capture\n", stderr);
-        return failed;
+        fputs("usage: second [replay | fates] < capture,"
+              " or second sap NUMBER..\n", stderr);
+        return FAILED;
     }
 #ifdef SIGPIPE
     /* A closed pipe is to be a failed write, and not the program's end. */
     signal(SIGPIPE, SIG_IGN);
 #endif
-    failure = failure_of(command->print(stdin, stdout));
-    if (failure == NULL)
-        return 0;
-    fprintf(stderr, "dlpi %s: %s\n", command->word, failure);
-    return failed;
+    ending = command->run(argv);
+    failure = failure_of(ending);
+    if (failure != NULL)
+        fprintf(stderr, "dlpi %s: %s\n", command->word, failure);
+    return status_of(ending);
 }

@@ -13,10 +13,28 @@ enum {
     LONGEST_ADDRESS_SIZE = 8  /* a MAC and 2 bytes of Ethernet type */
 };
 
-/* An even unreserved number under 256. */
-bool second_is_sap(uint32_t value);
+/* The length of a SAP and of an Ethernet type in an address. */
+enum {
+    SAP_LENGTH = 1,
+    TYPE_LENGTH = 2
+};
 
-/* An unreserved Ethernet type. */
+/* Why a number of a SAP field is none to bind. No number is excluded twice. */
+enum exclusion {
+    EXCLUDED_ODD = 1,
+    EXCLUDED_RESERVED = 2,
+    EXCLUDED_BETWEEN = 3, /* SAPs and types */
+    EXCLUDED_ABOVE = 4    /* the types */
+};
+
+/* The section of the manual that excludes a number. */
+enum section {
+    SECTION_BINDING = 1,
+    SECTION_RESERVED = 2
+};
+
+/* By the answer of second_sap; a number that is neither is excluded. */
+bool second_is_sap(uint32_t value);
 bool second_is_type(uint32_t value);
 
 /*

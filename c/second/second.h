@@ -10,7 +10,7 @@
  *   the program:     every .c file
  *   self test:       every .c file except main.c, and those of test/
  *   provider alone:  every .c file except main.c and what prints a text:
- *                    capture.c, replay.c, ledger.c and fates.c
+ *                    capture.c, replay.c, ledger.c, fates.c and saps.c
  */
 #ifndef SECOND_H
 #define SECOND_H
@@ -54,5 +54,18 @@ uint32_t second_call(uint8_t *table, size_t table_len,
  * cut or of another stream, the size is that of the P or C alone: 99.
  */
 uint32_t second_record_size(const uint8_t *record, size_t record_len);
+
+/*
+ * What a number of a SAP field is, whatever the mode of the bind. The answer:
+ *   bits 0-7    how many bytes it takes in an address: 1 for a SAP, 2 for an
+ *               Ethernet type, 0 if it is excluded
+ *   bits 8-15   0 if it is not excluded, else why it is: 1 odd, where SAPs are
+ *               even; 2 reserved; 3 between the SAPs and the types; 4 above
+ *               the types
+ *   bits 16-23  0 if it is not excluded, else the manual's section that
+ *               excludes it: 1 'Binding', 2 'Reserved IEEESAPS/Ethertypes'
+ *   bits 24-31  0
+ */
+uint32_t second_sap(uint32_t number);
 
 #endif

@@ -19,5 +19,6 @@ void run_pairs(struct bench *b);
 void run_datagrams(struct bench *b);
 void run_frames(struct bench *b);
 void run_boards(struct bench *b);
+void run_saps(struct bench *b);
 
 #endif

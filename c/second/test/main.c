@@ -23,6 +23,7 @@ int main(void)
     run_datagrams(&bench);
     run_frames(&bench);
     run_boards(&bench);
+    run_saps(&bench);
     printf("%u passed, %u failed\n", bench.passed, bench.failed);
     return bench.failed == 0 ? 0 : 1;
 }

@@ -1,19 +1,19 @@
 // What C is told of a number: whether a bind could take it, in which form, or which exclusion holds.
 ghost use mathlib.Core.Path.{_≡_};
 ghost use Rattle.paper.specs.Replies.{sapLength};
-ghost use Rattle.paper.specs.Exclusions.{reasonNumber, placeNumber, tellingOf, sapTelling};
+ghost use Rattle.paper.specs.Exclusions.{groundNumber, placeNumber, tellingOf, sapTelling};
 use paper::Excluded;
+use paper::Ground;
 use paper::Place;
-use paper::Reason;
 
-fn reason_number(reason: Reason) -> u8
-    ensures { λ r. ⌜ r ≡ reasonNumber reason ⌝ }
+fn ground_number(ground: Ground) -> u8
+    ensures { λ r. ⌜ r ≡ groundNumber ground ⌝ }
 {
-    match reason {
-        Reason::OddSap => 1,
-        Reason::ReservedSap => 2,
-        Reason::BetweenSapsAndTypes => 3,
-        Reason::AboveTypes => 4,
+    match ground {
+        Ground::OddSap => 1,
+        Ground::ReservedSap => 2,
+        Ground::BetweenSapsAndTypes => 3,
+        Ground::AboveTypes => 4,
     }
 }
 
@@ -41,9 +41,9 @@ fn telling_of(n: u32, by: Excluded) -> u32
 {
     match by {
         Excluded::By(x) => {
-            let reason = x.reason;
+            let ground = x.ground;
             let place = x.place;
-            reason_number(reason) as u32 * 256 + place_number(place) as u32 * 65536
+            ground_number(ground) as u32 * 256 + place_number(place) as u32 * 65536
         }
         Excluded::Not => sap_length(n),
     }

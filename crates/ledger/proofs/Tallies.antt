@@ -1,12 +1,12 @@
 -- Laws of tests and counts, over any list: each holds element by element, from the first on.
-use Prim.Native.Nat.{ℕ, zero, suc, _+_, _*_, _≤_, _<_}
+use Prim.Native.Nat.{ℕ, zero, suc, _+_, _*_, _%_, _≤_, _<_}
 use mathlib.Core.Path.{_≡_, refl, ap, sym, _∙_}
 use mathlib.Core.Bool.{Bool, true, false, not}
 use mathlib.Core.List.{List, [], _∷_, _++_}
 use lib.ListN.{length, getD}
-use lib.Dec.{eqb, ltb}
+use lib.Dec.{eqb, ltb, leb}
 use native.Mathlib.Omega.{arith}
-use borrow.Author.Tests.{not-false, not-true, ne-eqb, eq-eqb, eqb-true, eqb-false, ltb-true, ltb-false}
+use borrow.Author.Tests.{not-false, not-true, ne-eqb, eq-eqb, eqb-true, eqb-false, ltb-true, ltb-false, lt-leb, le-leb, leb-true, leb-false}
 use mathlib.Core.Logic.{_≢_}
 use Rattle.ledger.specs.Choice.{pick, _⇒_∣_, both, either}
 use Rattle.ledger.specs.Tally.{oneIf, occ, has, without, sumOf, allOf, ascending, firstOf}
@@ -48,6 +48,10 @@ pub either-right : (a b : Bool) → b ≡ true → either a b ≡ true
 either-right true b h = refl
 either-right false b h = h
 
+pub not-not : (b : Bool) → not (not b) ≡ b
+not-not true = refl
+not-not false = refl
+
 -- what each of two tests gives
 pub of-either : {P : Type 0} (a b : Bool) → either a b ≡ true → (a ≡ true → P) → (b ≡ true → P) → P
 of-either true b h f g = f refl
@@ -69,6 +73,29 @@ test-failed {r} e h = sym e ∙ not-true r h
 -- numbers that differ fail the test, whichever comes first
 pub differs : (k n : ℕ) → (n ≡ k → ⊥) → eqb k n ≡ false
 differs k n h = ne-eqb k n (λ e. h (sym e))
+
+-- a number is past another exactly if it is not up to it
+pub past-all : (k n : ℕ) → leb (suc k) n ≡ not (leb n k)
+past-all k n = go (leb n k) refl
+  where
+    go : (b : Bool) → leb n k ≡ b → leb (suc k) n ≡ not b
+    go true b = lt-leb (suc k) n (omega (arith, leb-true n k b))
+    go false b = le-leb (suc k) n (leb-false n k b)
+
+-- from a number to itself there is one
+pub one-alone : (k n : ℕ) → both (leb k n) (both (leb n k) true) ≡ eqb n k
+one-alone k n = same-test _ _
+    (λ h. let a : (leb k n ≡ true) × (both (leb n k) true ≡ true) = both-of _ _ h in
+    eq-eqb n k (omega (arith, leb-true k n (a .0), leb-true n k (both-of _ _ (a .1) .0))))
+    (λ h. to-both _ _ (le-leb k n (omega (arith, eqb-true n k h))) (to-both _ _ (le-leb n k (omega (arith, eqb-true n k h))) refl))
+
+-- a number is even exactly if it is not odd
+pub even-or-odd : (n : ℕ) → eqb (n % 2) 0 ≡ not (eqb (n % 2) 1)
+even-or-odd n = go (eqb (n % 2) 1) refl
+  where
+    go : (odd : Bool) → eqb (n % 2) 1 ≡ odd → eqb (n % 2) 0 ≡ not odd
+    go true o = ne-eqb (n % 2) 0 (λ e. omega (arith, eqb-true (n % 2) 1 o))
+    go false o = eq-eqb (n % 2) 0 (omega (arith, eqb-false (n % 2) 1 o))
 
 -- a test that holds leads to its answer
 pub hold : {A : Type 0} (b : Bool) (x y : A) → b ≡ true → (b ⇒ x ∣ y) ≡ x

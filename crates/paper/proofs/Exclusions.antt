@@ -7,10 +7,10 @@ use mathlib.Core.List.{List, [], _∷_, map}
 use lib.ListN.{length, getD, drop}
 use lib.Dec.{eqb, leb, ltb}
 use native.Mathlib.Omega.{arith}
-use borrow.Author.Tests.{lt-ltb, le-ltb, lt-leb, le-leb, eq-eqb, ne-eqb, eqb-true, eqb-false, ltb-true, ltb-false, leb-true, leb-false}
+use borrow.Author.Tests.{le-ltb, lt-leb, le-leb, eqb-true, ltb-true, ltb-false, leb-true}
 use Rattle.ledger.specs.Choice.{both, either, _⇒_∣_}
-use Rattle.ledger.specs.Tally.{has, oneIf, sumOf, allOf}
-use Rattle.ledger.proofs.Tallies.{both-true, both-of, to-both, either-false, same-test, has-one}
+use Rattle.ledger.specs.Tally.{oneIf, sumOf, allOf}
+use Rattle.ledger.proofs.Tallies.{both-true, either-false, not-not, past-all, one-alone, even-or-odd, has-one}
 use Rattle.paper.specs.Saps.{isSap, isType}
 use Rattle.paper.specs.Exclusions.{mostNumber, exclusions, excludes, excludedIn, excludedBy, isNone}
 use Rattle.paper.specs.declared.Exclusion.{Exclusion}
@@ -23,9 +23,9 @@ held l n = map (λ (x : Exclusion). excludes x n) l
 -- The table is what document 01 says: a SAP is a number under 256 of which no exclusion holds, a type one from 256 on, and a bind can
 -- take one of which none holds. Of no number hold two, so the order of the table decides nothing.
 pub record Tied (n : ℕ) : Type 0 where
-  pub sap : isSap n ≡ both (ltb n 256) (isNone (excludedBy n))
-  pub aType : isType n ≡ both (leb 256 n) (isNone (excludedBy n))
-  pub bound : either (isSap n) (isType n) ≡ isNone (excludedBy n)
+  pub saps : isSap n ≡ both (ltb n 256) (isNone (excludedBy n))
+  pub types : isType n ≡ both (leb 256 n) (isNone (excludedBy n))
+  pub binds : either (isSap n) (isType n) ≡ isNone (excludedBy n)
   pub once : sumOf oneIf (held exclusions n) ≤ 1
 
 none-held : (l : List Exclusion) (n : ℕ) → isNone (excludedIn l n) ≡ allOf not (held l n)
@@ -37,16 +37,9 @@ none-held (x ∷ l) n = go (excludes x n) (none-held l n)
     go true h = refl
     go false h = h
 
--- from a number to itself there is one
-one : (k n : ℕ) → both (leb k n) (both (leb n k) true) ≡ eqb n k
-one k n = same-test _ _
-    (λ h. let a : (leb k n ≡ true) × (both (leb n k) true ≡ true) = both-of _ _ h in
-    eq-eqb n k (omega (arith, leb-true k n (a .0), leb-true n k (both-of _ _ (a .1) .0))))
-    (λ h. to-both _ _ (le-leb k n (omega (arith, eqb-true n k h))) (to-both _ _ (le-leb n k (omega (arith, eqb-true n k h))) refl))
-
 under : (n : ℕ) → n < 256 → held exclusions n ≡ eqb (n % 2) 1 ∷ eqb n 6 ∷ false ∷ false ∷ []
 unfolding excludes
-under n h = simp (le-leb 0 n (omega arith), le-leb n 0xff (omega arith), one 6 n, lt-leb 0x100 n h, lt-leb 0x10000 n (omega arith))
+under n h = simp (le-leb 0 n (omega arith), le-leb n 0xff (omega arith), one-alone 6 n, lt-leb 0x100 n h, lt-leb 0x10000 n (omega arith))
 
 from : (n : ℕ) → 256 ≤ n → n ≤ mostNumber → held exclusions n ≡ false ∷ false ∷ leb n 0x5ff ∷ leb 0x10000 n ∷ []
 unfolding excludes
@@ -58,24 +51,16 @@ tie : (n : ℕ) (l : List Bool) → held exclusions n ≡ l → isSap n ≡ both
 unfolding excludedBy
 tie n l e s t o =
     let none : isNone (excludedBy n) ≡ allOf not l = none-held exclusions n ∙ ap (allOf not) e in
-    record { sap = rw none s; aType = rw none t; bound = rw (none, s, t) (go (ltb n 256) refl); once = subst (λ (k : List Bool). sumOf oneIf k ≤ 1) (sym e) o }
+    record { saps = rw none s; types = rw none t; binds = rw (none, s, t) (go (ltb n 256) refl); once = subst (λ (k : List Bool). sumOf oneIf k ≤ 1) (sym e) o }
   where
     go : (b : Bool) → ltb n 256 ≡ b → either (both (ltb n 256) (allOf not l)) (both (leb 256 n) (allOf not l)) ≡ allOf not l
     go true b = simp (b, lt-leb 256 n (ltb-true n 256 b), either-false (allOf not l))
     go false b = simp (b, le-leb 256 n (ltb-false n 256 b))
 
--- an odd number is not even, and 6 is not odd
-even : (n : ℕ) → eqb (n % 2) 0 ≡ not (eqb (n % 2) 1)
-even n = go (eqb (n % 2) 1) refl
-  where
-    go : (odd : Bool) → eqb (n % 2) 1 ≡ odd → eqb (n % 2) 0 ≡ not odd
-    go true o = ne-eqb (n % 2) 0 (λ e. omega (arith, eqb-true (n % 2) 1 o))
-    go false o = eq-eqb (n % 2) 0 (omega (arith, eqb-false (n % 2) 1 o))
-
 low : (n : ℕ) → n < 256 → Tied n
 unfolding isSap isType
 low n h = tie n _ (under n h)
-    (rw (even n, has-one n 6, both-true (not (eqb n 6))))
+    (rw (even-or-odd n, has-one n 6, both-true (not (eqb n 6))))
     (simp (lt-leb 0x600 n (omega arith), lt-leb 256 n h))
     (go (eqb n 6) refl (eqb (n % 2) 1) refl)
   where
@@ -85,23 +70,11 @@ low n h = tie n _ (under n h)
     go false s true o = omega arith
     go false s false o = omega arith
 
-twice : (b : Bool) → not (not b) ≡ b
-twice true = refl
-twice false = refl
-
--- one number is past another if that one is not as far
-past : (k n : ℕ) → leb (suc k) n ≡ not (leb n k)
-past k n = go (leb n k) refl
-  where
-    go : (b : Bool) → leb n k ≡ b → leb (suc k) n ≡ not b
-    go true b = lt-leb (suc k) n (omega (arith, leb-true n k b))
-    go false b = le-leb (suc k) n (leb-false n k b)
-
 high : (n : ℕ) → 256 ≤ n → n ≤ mostNumber → Tied n
 unfolding isSap isType
 high n h m = tie n _ (from n h m)
     (simp (le-ltb n 256 h))
-    (rw (past 0x5ff n, past 0xffff n, le-leb 256 n h, twice (leb n 0xffff)))
+    (rw (past-all 0x5ff n, past-all 0xffff n, le-leb 256 n h, not-not (leb n 0xffff)))
     (go (leb n 0x5ff) refl (leb 0x10000 n) refl)
   where
     go : (below : Bool) → leb n 0x5ff ≡ below → (above : Bool) → leb 0x10000 n ≡ above → sumOf oneIf (false ∷ false ∷ below ∷ above ∷ []) ≤ 1

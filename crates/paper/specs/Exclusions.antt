@@ -9,8 +9,8 @@ use Rattle.paper.specs.Replies.{sapLength}
 use Rattle.paper.specs.declared.Exclusion.{Exclusion}
 use Rattle.paper.specs.declared.Excluded.{Excluded}
 use Rattle.paper.specs.declared.Excluded.the-variants.{By, Not}
-use Rattle.paper.specs.declared.Reason.{Reason}
-use Rattle.paper.specs.declared.Reason.the-variants.{OddSap, ReservedSap, BetweenSapsAndTypes, AboveTypes}
+use Rattle.paper.specs.declared.Ground.{Ground}
+use Rattle.paper.specs.declared.Ground.the-variants.{OddSap, ReservedSap, BetweenSapsAndTypes, AboveTypes}
 use Rattle.paper.specs.declared.Which.{Which}
 use Rattle.paper.specs.declared.Which.the-variants.{Odd, All}
 use Rattle.paper.specs.declared.Place.{Place}
@@ -24,13 +24,13 @@ mostNumber = 0xffffffff
 abbrev pub exclusions : List Exclusion
 exclusions =
     -- 'Binding': SAPs are even numbers from 0 to 255;
-    record { reason = OddSap; which = Odd; first = 0; last = 0xff; place = Binding }
+    record { ground = OddSap; which = Odd; first = 0; last = 0xff; place = Binding }
     -- reserved ones are not, and 'Reserved IEEESAPS/Ethertypes' leaves them to RFC 1010, which has one, 'Reserved (DOD IP)'.
-    ∷ record { reason = ReservedSap; which = All; first = 0x06; last = 0x06; place = ReservedSapsAndTypes }
+    ∷ record { ground = ReservedSap; which = All; first = 0x06; last = 0x06; place = ReservedSapsAndTypes }
     -- 'Binding': types are numbers from 0x600
-    ∷ record { reason = BetweenSapsAndTypes; which = All; first = 0x100; last = 0x5ff; place = Binding }
+    ∷ record { ground = BetweenSapsAndTypes; which = All; first = 0x100; last = 0x5ff; place = Binding }
     -- to 0xffff; reserved ones are not, and RFC 1010 has none.
-    ∷ record { reason = AboveTypes; which = All; first = 0x10000; last = mostNumber; place = Binding }
+    ∷ record { ground = AboveTypes; which = All; first = 0x10000; last = mostNumber; place = Binding }
     ∷ []
 
 abbrev pub exclusionTotal : ℕ
@@ -59,11 +59,11 @@ isNone (By x) = false
 
 -- ---- what C is told of a number (docs/DECISIONS.md, 92)
 
-abbrev pub reasonNumber : Reason → ℕ
-reasonNumber OddSap = 1
-reasonNumber ReservedSap = 2
-reasonNumber BetweenSapsAndTypes = 3
-reasonNumber AboveTypes = 4
+abbrev pub groundNumber : Ground → ℕ
+groundNumber OddSap = 1
+groundNumber ReservedSap = 2
+groundNumber BetweenSapsAndTypes = 3
+groundNumber AboveTypes = 4
 
 abbrev pub placeNumber : Place → ℕ
 placeNumber Binding = 1
@@ -73,7 +73,7 @@ placeNumber ReservedSapsAndTypes = 2
 -- place.
 unfoldable pub tellingOf : ℕ → Excluded → ℕ
 tellingOf n Not = sapLength n
-tellingOf n (By x) = reasonNumber (x .reason) * 256 + placeNumber (x .place) * 65536
+tellingOf n (By x) = groundNumber (x .ground) * 256 + placeNumber (x .place) * 65536
 
 unfoldable pub sapTelling : ℕ → ℕ
 sapTelling n = tellingOf n (excludedBy n)

@@ -136,8 +136,8 @@ pub fn header_number(q: State) -> u8
     }
 }
 
-// Why no bind can take a number.
-pub enum Reason {
+// On which ground no bind can take a number.
+pub enum Ground {
     OddSap,
     ReservedSap,
     BetweenSapsAndTypes,
@@ -158,7 +158,7 @@ pub enum Which {
 
 // An exclusion: no bind can take these of the numbers from the first to the last.
 pub struct Exclusion {
-    pub reason: Reason,
+    pub ground: Ground,
     pub which: Which,
     pub first: u32,
     pub last: u32,

@@ -3,8 +3,8 @@ ghost use mathlib.Core.Path.{_≡_};
 ghost use Rattle.paper.specs.Exclusions.{exclusions, isOf, excludes, excludedIn, excludedBy, isNone};
 use paper::Excluded;
 use paper::Exclusion;
+use paper::Ground;
 use paper::Place;
-use paper::Reason;
 use paper::Which;
 
 const EXCLUSION_TOTAL: usize = 4;
@@ -12,7 +12,7 @@ const EXCLUSION_TOTAL: usize = 4;
 const EXCLUSIONS: [Exclusion; EXCLUSION_TOTAL] = [
     // 'Binding': SAPs are even numbers from 0 to 255;
     Exclusion {
-        reason: Reason::OddSap,
+        ground: Ground::OddSap,
         which: Which::Odd,
         first: 0,
         last: 0xff,
@@ -20,7 +20,7 @@ const EXCLUSIONS: [Exclusion; EXCLUSION_TOTAL] = [
     },
     // reserved ones are not, and of these RFC 1010 has one.
     Exclusion {
-        reason: Reason::ReservedSap,
+        ground: Ground::ReservedSap,
         which: Which::All,
         first: 0x06,
         last: 0x06,
@@ -28,7 +28,7 @@ const EXCLUSIONS: [Exclusion; EXCLUSION_TOTAL] = [
     },
     // 'Binding': types are numbers from 0x600
     Exclusion {
-        reason: Reason::BetweenSapsAndTypes,
+        ground: Ground::BetweenSapsAndTypes,
         which: Which::All,
         first: 0x100,
         last: 0x5ff,
@@ -36,7 +36,7 @@ const EXCLUSIONS: [Exclusion; EXCLUSION_TOTAL] = [
     },
     // to 0xffff; of reserved ones RFC 1010 has none.
     Exclusion {
-        reason: Reason::AboveTypes,
+        ground: Ground::AboveTypes,
         which: Which::All,
         first: 0x10000,
         last: 0xffffffff,

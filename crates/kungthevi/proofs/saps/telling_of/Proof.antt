@@ -6,7 +6,7 @@ use Rattle.kungthevi.proofs.saps.telling_of.Tie as tie
 
 returns : tie.Need-returns
 unfolding tellingOf
-returns c = rw (c .before .before .before .by .given .1, c .before .reason-number .ensures, c .place-number .ensures)
+returns c = rw (c .before .before .before .by .given .1, c .before .ground-number .ensures, c .place-number .ensures)
 
 returns-2 : tie.Need-returns-2
 unfolding tellingOf

@@ -10,7 +10,7 @@ use borrow.Author.Needs.{needs}
 use Rattle.ledger.proofs.Tallies.{hold, skip}
 use Rattle.paper.specs.Exclusions.{exclusionTotal, excludes, excludedIn}
 use Rattle.paper.specs.declared.Exclusion.{Exclusion}
-use Rattle.paper.specs.declared.Reason.the-variants.{OddSap}
+use Rattle.paper.specs.declared.Ground.the-variants.{OddSap}
 use Rattle.paper.specs.declared.Which.the-variants.{Odd}
 use Rattle.paper.specs.declared.Place.the-variants.{Binding}
 use Rattle.paper.proofs.Exclusions.{excluded-from}
@@ -19,7 +19,7 @@ use Rattle.paper_rules.proofs.exclusions.excluded_in.Tie as tie
 
 -- what stands past the list's end
 abbrev past : Exclusion
-past = record { reason = OddSap; which = Odd; first = 0; last = 0; place = Binding }
+past = record { ground = OddSap; which = Odd; first = 0; last = 0; place = Binding }
 
 record Passed (l : List Exclusion) (n k : ℕ) : Type 0 where
   pub inside : k ≤ exclusionTotal
