@@ -65,17 +65,18 @@ static bool bind_agrees(const struct stage *attached, uint32_t number)
     return stage_field(&stage, 0) == BIND_ACK && stage_field(&stage, 8) == 6 + length;
 }
 
-/* Every number of two bytes, and above them each that has its two low bytes in front, too. */
+/* Every number of two bytes; above them a sample, each with two bytes in front that are those behind. */
 static void check_binds(struct checks *checks)
 {
     struct stage attached;
+    uint32_t number = 0, half = 1;
     stage_set(&attached, TWO_STREAMS ATTACH("00", "00000001"));
-    for (uint32_t number = 0; number < NUMBERS_OF_TWO_BYTES; number++) {
-        uint32_t above = number << 16 | number;
-        bool agree = bind_agrees(&attached, number) && bind_agrees(&attached, above);
-        if (!agree || number == NUMBERS_OF_TWO_BYTES - 1)
-            check(checks, agree, "binds to 0x%" PRIx32 " and 0x%" PRIx32, number, above);
-    }
+    while (number < NUMBERS_OF_TWO_BYTES && bind_agrees(&attached, number))
+        number++;
+    check(checks, number == NUMBERS_OF_TWO_BYTES, "a bind to 0x%" PRIx32, number);
+    while (half < NUMBERS_OF_TWO_BYTES && bind_agrees(&attached, half << 16 | half))
+        half += 17;
+    check(checks, half >= NUMBERS_OF_TWO_BYTES, "a bind to 0x%" PRIx32, half << 16 | half);
 }
 
 void run_saps(struct checks *checks)

@@ -1,4 +1,4 @@
--- The table in code is the definition's, and in it the first that holds is found.
+-- In the table the first that holds is found.
 use mathlib.Core.Path.{_∙_}
 use Rattle.paper.specs.Exclusions.{excludedBy}
 use borrow.Author.Needs.{needs}
