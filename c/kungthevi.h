@@ -137,10 +137,11 @@ uint32_t kungthevi_record_size(const uint8_t *record, size_t record_len);
 
 /*
  * What a number is in the SAP field of a bind: a SAP, an Ethernet type, or
- * excluded: no bind can take it, and is answered with DL_BADADDR. Then it also
- * tells which exclusion holds, and where the maker's manual says so. Any number
- * may be asked; no table is needed. (In mode 1 a bind takes no type: that is
- * answered with DL_UNSUPPORTED, and is no exclusion.)
+ * excluded. No bind can take an excluded number: one that breaks no earlier
+ * rule is answered with DL_BADADDR. The answer then also tells which exclusion
+ * holds, and where the maker's manual makes it. Any number may be asked; no
+ * table is needed. (In mode 1 a bind takes no type: that is answered with
+ * DL_UNSUPPORTED, and is no exclusion.)
  *
  * The number returned is taken apart by the macros below it.
  */
@@ -152,10 +153,10 @@ uint32_t kungthevi_sap(uint32_t number);
 /* Which exclusion holds; 0 if none does. */
 #define KUNGTHEVI_SAP_EXCLUSION(answer) ((uint32_t)(answer) >> 8 & 0xff)
 
-#define KUNGTHEVI_SAP_ODD      1  /* an odd number up to 0xff */
-#define KUNGTHEVI_SAP_RESERVED 2  /* 0x06 */
-#define KUNGTHEVI_SAP_BETWEEN  3  /* 0x100 to 0x5ff: between the SAPs and the types */
-#define KUNGTHEVI_SAP_ABOVE    4  /* 0x10000 or more: above the types */
+#define KUNGTHEVI_EXCLUDED_ODD      1  /* an odd number up to 0xff */
+#define KUNGTHEVI_EXCLUDED_RESERVED 2  /* 0x06 */
+#define KUNGTHEVI_EXCLUDED_BETWEEN  3  /* 0x100 to 0x5ff: between the SAPs and the types */
+#define KUNGTHEVI_EXCLUDED_ABOVE    4  /* 0x10000 or more: above the types */
 
 /* The manual's section that excludes it; 0 if it is not excluded. */
 #define KUNGTHEVI_SAP_PLACE(answer) ((uint32_t)(answer) >> 16 & 0xff)

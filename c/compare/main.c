@@ -1,9 +1,9 @@
 /* compare [-d DIR] [CALLS [SEED]]: compares the library with the second program, call by call.
  *
  * First what both tell of the numbers of a SAP field. Then the captures of the seeds from SEED on, and changed forms of
- * them, are played to both until CALLS calls are compared: 1000000 from seed 1 if not told otherwise. A difference is printed, and the capture that leads to it is written to a
- * file in DIR, or where the program runs. The exit status is 1 after any, and if enough calls left out something that
- * they must reach. */
+ * them, are played to both until CALLS calls are compared: 1000000 from seed 1 if not told otherwise. A difference is
+ * printed, and the capture that leads to a call on which they differ is written to a file in DIR, or where the program
+ * runs. The exit status is 1 after any, and if enough calls left out something that they must reach. */
 #include <stdio.h>
 #include <string.h>
 

@@ -4,6 +4,8 @@
 #include <inttypes.h>
 #include <stdio.h>
 
+#define NUMBERS_ABOVE (UINT32_MAX - NUMBERS_OF_TWO_BYTES + 1)
+
 enum {
     NUMBERS_OF_TWO_BYTES = 65536,
     DRAWN_ABOVE = 65536
@@ -37,5 +39,5 @@ void saps_compare(struct comparison *comparison)
         compare_number(comparison, number);
     compare_edges(comparison);
     for (unsigned drawn = 0; drawn < DRAWN_ABOVE; drawn++)
-        compare_number(comparison, dice_any(&comparison->dice) | NUMBERS_OF_TWO_BYTES);
+        compare_number(comparison, NUMBERS_OF_TWO_BYTES + dice_below(&comparison->dice, NUMBERS_ABOVE));
 }

@@ -20,33 +20,34 @@ struct telling {
 
 static const struct telling tellings[] = {
     { 0x00, 1, 0, 0 },
-    { 0x01, 0, KUNGTHEVI_SAP_ODD, KUNGTHEVI_PLACE_BINDING },
+    { 0x01, 0, KUNGTHEVI_EXCLUDED_ODD, KUNGTHEVI_PLACE_BINDING },
     { 0x04, 1, 0, 0 },
-    { 0x05, 0, KUNGTHEVI_SAP_ODD, KUNGTHEVI_PLACE_BINDING },
-    { 0x06, 0, KUNGTHEVI_SAP_RESERVED, KUNGTHEVI_PLACE_RESERVED },
-    { 0x07, 0, KUNGTHEVI_SAP_ODD, KUNGTHEVI_PLACE_BINDING },
+    { 0x05, 0, KUNGTHEVI_EXCLUDED_ODD, KUNGTHEVI_PLACE_BINDING },
+    { 0x06, 0, KUNGTHEVI_EXCLUDED_RESERVED, KUNGTHEVI_PLACE_RESERVED },
+    { 0x07, 0, KUNGTHEVI_EXCLUDED_ODD, KUNGTHEVI_PLACE_BINDING },
     { 0x08, 1, 0, 0 },
     { 0x80, 1, 0, 0 },
     { 0xaa, 1, 0, 0 },
     { 0xfe, 1, 0, 0 },
-    { 0xff, 0, KUNGTHEVI_SAP_ODD, KUNGTHEVI_PLACE_BINDING },
-    { 0x100, 0, KUNGTHEVI_SAP_BETWEEN, KUNGTHEVI_PLACE_BINDING },
-    { 0x5ff, 0, KUNGTHEVI_SAP_BETWEEN, KUNGTHEVI_PLACE_BINDING },
+    { 0xff, 0, KUNGTHEVI_EXCLUDED_ODD, KUNGTHEVI_PLACE_BINDING },
+    { 0x100, 0, KUNGTHEVI_EXCLUDED_BETWEEN, KUNGTHEVI_PLACE_BINDING },
+    { 0x5ff, 0, KUNGTHEVI_EXCLUDED_BETWEEN, KUNGTHEVI_PLACE_BINDING },
     { 0x600, 2, 0, 0 },
     { 0x601, 2, 0, 0 },
     { 0x800, 2, 0, 0 },
     { 0xffff, 2, 0, 0 },
-    { 0x10000, 0, KUNGTHEVI_SAP_ABOVE, KUNGTHEVI_PLACE_BINDING },
-    { 0x10006, 0, KUNGTHEVI_SAP_ABOVE, KUNGTHEVI_PLACE_BINDING },
-    { 0x80000080, 0, KUNGTHEVI_SAP_ABOVE, KUNGTHEVI_PLACE_BINDING },
-    { 0xffffffff, 0, KUNGTHEVI_SAP_ABOVE, KUNGTHEVI_PLACE_BINDING },
+    { 0x10000, 0, KUNGTHEVI_EXCLUDED_ABOVE, KUNGTHEVI_PLACE_BINDING },
+    { 0x10006, 0, KUNGTHEVI_EXCLUDED_ABOVE, KUNGTHEVI_PLACE_BINDING },
+    { 0x80000080, 0, KUNGTHEVI_EXCLUDED_ABOVE, KUNGTHEVI_PLACE_BINDING },
+    { 0xffffffff, 0, KUNGTHEVI_EXCLUDED_ABOVE, KUNGTHEVI_PLACE_BINDING },
 };
 
 static void check_telling(struct checks *checks, const struct telling *telling)
 {
     uint32_t answer = kungthevi_sap(telling->number);
     check(checks, KUNGTHEVI_SAP_LENGTH(answer) == telling->length, "0x%" PRIx32 ": its length", telling->number);
-    check(checks, KUNGTHEVI_SAP_EXCLUSION(answer) == telling->exclusion, "0x%" PRIx32 ": its exclusion", telling->number);
+    check(checks, KUNGTHEVI_SAP_EXCLUSION(answer) == telling->exclusion, "0x%" PRIx32 ": its exclusion",
+          telling->number);
     check(checks, KUNGTHEVI_SAP_PLACE(answer) == telling->place, "0x%" PRIx32 ": its place", telling->number);
     check(checks, answer >> 24 == 0, "0x%" PRIx32 ": zero above", telling->number);
 }
@@ -65,7 +66,7 @@ static bool bind_agrees(const struct stage *attached, uint32_t number)
     return stage_field(&stage, 0) == BIND_ACK && stage_field(&stage, 8) == 6 + length;
 }
 
-/* Every number of two bytes; above them a sample, each with two bytes in front that are those behind. */
+/* Every number of two bytes; above them a sample, whose two high bytes are their two low ones. */
 static void check_binds(struct checks *checks)
 {
     struct stage attached;

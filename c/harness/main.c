@@ -68,7 +68,7 @@ static const char help[] =
     "kungthevi sap NUMBER..\n"
     "  Prints of each NUMBER, in decimal or behind 0x in hex, what it is in the SAP field of a bind.\n"
     "\n"
-    "    0x80 SAP                 a bind can take it; so can a datagram's address, in one byte\n"
+    "    0x80 SAP                 a bind can take it; a datagram's address can end in it, in one byte\n"
     "    0x0800 type              likewise, in two bytes, but no bind in mode 1\n"
     "    0x06 excluded: reserved, by RFC 1010 (manual, 'Reserved IEEESAPS/Ethertypes')\n"
     "                             neither can: why, and the section of the maker's manual\n"

@@ -1,4 +1,4 @@
-/* kungthevi sap: prints of numbers whether a bind could take them, and if not, what excludes them. */
+/* kungthevi sap: prints of numbers whether a bind can take them, and if not, what excludes them. */
 #include "sap.h"
 
 #include <ctype.h>
@@ -10,10 +10,10 @@
 #include "message.h"
 
 static const char *const exclusions[] = {
-    [KUNGTHEVI_SAP_ODD] = "odd, where SAPs are even",
-    [KUNGTHEVI_SAP_RESERVED] = "reserved, by RFC 1010",
-    [KUNGTHEVI_SAP_BETWEEN] = "between the SAPs, which end at 0xff, and the types, which begin at 0x600",
-    [KUNGTHEVI_SAP_ABOVE] = "above the types, which end at 0xffff",
+    [KUNGTHEVI_EXCLUDED_ODD] = "odd, where SAPs are even",
+    [KUNGTHEVI_EXCLUDED_RESERVED] = "reserved, by RFC 1010",
+    [KUNGTHEVI_EXCLUDED_BETWEEN] = "between the SAPs, which end at 0xff, and the types, which begin at 0x600",
+    [KUNGTHEVI_EXCLUDED_ABOVE] = "above the types, which end at 0xffff",
 };
 
 static const char *const places[] = {
@@ -53,7 +53,9 @@ static bool read_number(const char *word, uint32_t *number)
 /* In as many bytes as a SAP or a type has, and else in all that the field has. */
 static void print_number(struct text *text, uint32_t number)
 {
-    const uint8_t field[] = { (uint8_t)(number >> 24), (uint8_t)(number >> 16), (uint8_t)(number >> 8), (uint8_t)number };
+    const uint8_t field[] = {
+        (uint8_t)(number >> 24), (uint8_t)(number >> 16), (uint8_t)(number >> 8), (uint8_t)number
+    };
     size_t size = number <= 0xff ? 1 : number <= 0xffff ? 2 : sizeof field;
     text_words(text, "0x");
     text_hex(text, field + sizeof field - size, size);

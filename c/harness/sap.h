@@ -1,4 +1,4 @@
-/* kungthevi sap: prints of numbers whether a bind could take them, and if not, what excludes them. */
+/* kungthevi sap: prints of numbers whether a bind can take them, and if not, what excludes them. */
 #ifndef HARNESS_SAP_H
 #define HARNESS_SAP_H
 

@@ -2,7 +2,7 @@
 #ifndef ENDING_H
 #define ENDING_H
 
-/* A text that ended where something failed has no last line. */
+/* A text that ended where something failed has no last line. Of several the last named decides. */
 enum ending {
     DONE,
     SOME_EXCLUDED, /* of the numbers asked about */

@@ -39,8 +39,8 @@ pub extern "C" fn kungthevi_record_size(bytes: &[u8]) -> u32
     wire_records::record_size(bytes) as u32
 }
 
-// Whether a bind could take a number of a SAP field: in bits 0 to 7 the bytes that it takes in an address, 0 if it is excluded; in 8
-// to 15 the exclusion that holds, in 16 to 23 the manual's place that makes it.
+// Whether a bind can take a number of a SAP field: in bits 0 to 7 how many bytes it takes in an address, 0 if it is excluded; in 8 to
+// 15 the exclusion that holds, in 16 to 23 the manual's place that makes it.
 #[no_mangle]
 pub extern "C" fn kungthevi_sap(number: u32) -> u32
     ensures { λ n. ⌜ n ≡ sapTelling number ⌝ }

@@ -1,4 +1,4 @@
-// What C is told of a number: whether a bind could take it, in which form, or which exclusion holds.
+// What C is told of a number: whether a bind can take it, in which form, or which exclusion holds.
 ghost use mathlib.Core.Path.{_≡_};
 ghost use Rattle.paper.specs.Replies.{sapLength};
 ghost use Rattle.paper.specs.Exclusions.{groundNumber, placeNumber, tellingOf, sapTelling};
@@ -26,7 +26,7 @@ fn place_number(place: Place) -> u8
     }
 }
 
-// The bytes that it takes in an address: one of a SAP, two of a type.
+// How many bytes it takes in an address: one of a SAP, two of a type.
 fn sap_length(n: u32) -> u32
     ensures { λ r. ⌜ r ≡ sapLength n ⌝ }
 {

@@ -44,7 +44,7 @@ isOf All n = true
 unfoldable pub excludes : Exclusion → ℕ → Bool
 excludes x n = both (leb (x .first) n) (both (leb n (x .last)) (isOf (x .which) n))
 
--- which exclusion holds
+-- which exclusion holds: the first that does
 abbrev pub excludedIn : List Exclusion → ℕ → Excluded
 excludedIn [] n = Not
 excludedIn (x ∷ l) n = excludes x n ⇒ By x ∣ excludedIn l n
@@ -69,7 +69,7 @@ abbrev pub placeNumber : Place → ℕ
 placeNumber Binding = 1
 placeNumber ReservedSapsAndTypes = 2
 
--- In bits 0 to 7 the bytes that it takes in an address, 0 if it is excluded; in 8 to 15 the exclusion, in 16 to 23 the manual's
+-- In bits 0 to 7 how many bytes it takes in an address, 0 if it is excluded; in 8 to 15 the exclusion, in 16 to 23 the manual's
 -- place.
 unfoldable pub tellingOf : ℕ → Excluded → ℕ
 tellingOf n Not = sapLength n

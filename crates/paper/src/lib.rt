@@ -150,7 +150,7 @@ pub enum Place {
     ReservedSapsAndTypes,
 }
 
-// Of the numbers from one to another.
+// Which of the numbers from the first to the last.
 pub enum Which {
     Odd,
     All,

@@ -1,4 +1,5 @@
-// The order of errors by value: what it asks of the table is handed to it; and a stream by value, as it stands after a row.
+// The order of errors by value: what it asks of the table is handed to it; the SAP test; and a stream by value, as it stands after a
+// row.
 mod datagrams;
 mod errors;
 mod exclusions;
