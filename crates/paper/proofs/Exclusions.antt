@@ -1,8 +1,8 @@
 -- Under 256 the four tests of the table come to: odd, the reserved one, no, no; from 256 on to: no, no, under the types, over them.
--- The tests of document 01 are the same two in each part.
+-- The tests of document 01 are the same two in each part. The search names what it finds.
 use Prim.Native.Nat.{ℕ, zero, suc, _%_, _<_, _≤_}
 use mathlib.Core.Path.{_≡_, refl, ap, sym, subst, _∙_}
-use mathlib.Core.Bool.{Bool, true, false, not}
+use mathlib.Core.Bool.{Bool, true, false, not, false≢true}
 use mathlib.Core.List.{List, [], _∷_, map}
 use lib.ListN.{length, getD, drop}
 use lib.Dec.{eqb, leb, ltb}
@@ -14,19 +14,46 @@ use Rattle.ledger.proofs.Tallies.{both-true, either-false, not-not, past-all, o
 use Rattle.paper.specs.Saps.{isSap, isType}
 use Rattle.paper.specs.Exclusions.{mostNumber, exclusions, excludes, excludedIn, excludedBy, isNone}
 use Rattle.paper.specs.declared.Exclusion.{Exclusion}
-use Rattle.paper.specs.declared.Excluded.the-variants.{By}
+use Rattle.paper.specs.declared.Excluded.{Excluded}
+use Rattle.paper.specs.declared.Excluded.the-variants.{By, Not}
 
 -- which of some exclusions hold of a number
 abbrev held : List Exclusion → ℕ → List Bool
 held l n = map (λ (x : Exclusion). excludes x n) l
 
+-- an exclusion of a list that holds of a number
+pub record HoldsIn (l : List Exclusion) (n : ℕ) (x : Exclusion) : Type 0 where
+  pub place : ℕ
+  pub inside : place < length l
+  pub there : getD l place x ≡ x
+  pub holds : excludes x n ≡ true
+
 -- The table is what document 01 says: a SAP is a number under 256 of which no exclusion holds, a type one from 256 on, and a bind can
--- take one of which none holds. Of no number hold two, so the order of the table decides nothing.
+-- take one of which none holds. The exclusion that is named is one of the table's and holds; of no number hold two, so the order of
+-- the table decides nothing.
 pub record Tied (n : ℕ) : Type 0 where
   pub saps : isSap n ≡ both (ltb n 256) (isNone (excludedBy n))
   pub types : isType n ≡ both (leb 256 n) (isNone (excludedBy n))
   pub binds : either (isSap n) (isType n) ≡ isNone (excludedBy n)
+  pub named : (x : Exclusion) → excludedBy n ≡ By x → HoldsIn exclusions n x
   pub once : sumOf oneIf (held exclusions n) ≤ 1
+
+abbrev namedBy : Exclusion → Excluded → Exclusion
+namedBy d (By x) = x
+namedBy d Not = d
+
+named-holds : (l : List Exclusion) (n : ℕ) (x : Exclusion) → excludedIn l n ≡ By x → HoldsIn l n x
+unfolding _⇒_∣_
+named-holds [] n x e = absurd (false≢true (sym (ap isNone e)))
+named-holds (y ∷ l) n x e = go (excludes y n) refl (named-holds l n x) e
+  where
+    go : (b : Bool) → excludes y n ≡ b → (excludedIn l n ≡ By x → HoldsIn l n x) → (b ⇒ By y ∣ excludedIn l n) ≡ By x → HoldsIn (y ∷ l) n x
+    go true b rest e =
+        let same : y ≡ x = ap (namedBy y) e in
+        record { place = 0; inside = omega arith; there = same; holds = subst (λ (z : Exclusion). excludes z n ≡ true) same b }
+    go false b rest e =
+        let found = rest e in
+        record { place = suc (found .place); inside = omega (arith, found .inside); there = found .there; holds = found .holds }
 
 none-held : (l : List Exclusion) (n : ℕ) → isNone (excludedIn l n) ≡ allOf not (held l n)
 unfolding _⇒_∣_
@@ -51,7 +78,13 @@ tie : (n : ℕ) (l : List Bool) → held exclusions n ≡ l → isSap n ≡ both
 unfolding excludedBy
 tie n l e s t o =
     let none : isNone (excludedBy n) ≡ allOf not l = none-held exclusions n ∙ ap (allOf not) e in
-    record { saps = rw none s; types = rw none t; binds = rw (none, s, t) (go (ltb n 256) refl); once = subst (λ (k : List Bool). sumOf oneIf k ≤ 1) (sym e) o }
+    record {
+      saps = rw none s;
+      types = rw none t;
+      binds = rw (none, s, t) (go (ltb n 256) refl);
+      named = named-holds exclusions n;
+      once = subst (λ (k : List Bool). sumOf oneIf k ≤ 1) (sym e) o;
+    }
   where
     go : (b : Bool) → ltb n 256 ≡ b → either (both (ltb n 256) (allOf not l)) (both (leb 256 n) (allOf not l)) ≡ allOf not l
     go true b = simp (b, lt-leb 256 n (ltb-true n 256 b), either-false (allOf not l))
