@@ -38,7 +38,7 @@ extern "C" {
 #endif
 
 /* The bytes of a table, no more and no fewer. docs/IMAGE.md says what each holds. */
-#define KUNGTHEVI_TABLE_SIZE 904
+#define KUNGTHEVI_TABLE_SIZE 760
 
 /* The room that a call needs, however little it writes. A longer room is served too. */
 #define KUNGTHEVI_ROOM_SIZE 128
@@ -64,16 +64,9 @@ uint32_t kungthevi_fresh(uint8_t *table, size_t table_len);
  * them together. The message without its 'M' is refused, and so is an 'M' by
  * itself.
  *
- * A stream that is bound in mode 2 takes up to four further SAPs beside its
- * first, all of one form: SAPs if that is a SAP, types if it is a type. A message
- * of code 0x1b (DL_SUBS_BIND_REQ) binds one and is answered with one of code 0x1c
- * (DL_SUBS_BIND_ACK), one of code 0x15 (DL_SUBS_UNBIND_REQ) drops one. An unbind
- * or a close drops them all.
- *
- * A frame whose called MAC is that of its PPA comes once to each stream of the
- * PPA that is bound in mode 2 to the called SAP, or type, in that form, as its
- * first or as a further one. If there is none, or the MAC is another, it is served
- * all the same and writes nothing.
+ * A frame whose called MAC is that of its PPA comes to each stream of the PPA
+ * that is bound in mode 2 to the called SAP, or type, in that form. If there is
+ * none, or the MAC is another, it is served all the same and writes nothing.
  *
  * Records in, by their first byte; numbers are big-endian:
  *   'G' add PPA          number 4, MAC 6
@@ -115,13 +108,6 @@ uint32_t kungthevi_fresh(uint8_t *table, size_t table_len);
  *         [3 + 20] = 0x02, 0, 0, 0, 0, 0x02, 0x84,
  *         [99] = 'M', 0, 2, 'h', 'i'
  *     };
- *
- * A bind of the same stream to the further SAP 0x82, which stands at offset 16 of
- * the block and has one byte:
- *
- *     const uint8_t further[99] = {
- *         'P', 0, 17, 0, 0, 0, 0x1b, 0, 0, 0, 16, 0, 0, 0, 1, 0, 0, 0, 1, 0x82
- *     };
  */
 uint32_t kungthevi_call(uint8_t *table, size_t table_len,
                         const uint8_t *record, size_t record_len,
@@ -151,11 +137,11 @@ uint32_t kungthevi_record_size(const uint8_t *record, size_t record_len);
 
 /*
  * What a number is in the SAP field of a bind: a SAP, an Ethernet type, or
- * excluded. No bind can take an excluded number, as the first SAP or as a further
- * one: one that breaks no earlier rule is answered with DL_BADADDR. The answer
- * then also tells which exclusion holds, and where the maker's manual makes it.
- * Any number may be asked; no table is needed. (In mode 1 a bind takes no type:
- * that is answered with DL_UNSUPPORTED, and is no exclusion.)
+ * excluded. No bind can take an excluded number: one that breaks no earlier
+ * rule is answered with DL_BADADDR. The answer then also tells which exclusion
+ * holds, and where the maker's manual makes it. Any number may be asked; no
+ * table is needed. (In mode 1 a bind takes no type: that is answered with
+ * DL_UNSUPPORTED, and is no exclusion.)
  *
  * The number returned is taken apart by the macros below it.
  */
@@ -203,20 +189,18 @@ uint32_t kungthevi_sap(uint32_t number);
  * block. A DL_UDERROR_IND (code 0x09) has it in bytes 16 to 19, and there it is
  * DL_BADADDR or DL_OUTSTATE.
  */
-#define KUNGTHEVI_DL_BADADDR      0x01  /* address or SAP not allowed; a further SAP that is bound already, or to be
-                                           dropped and not bound */
+#define KUNGTHEVI_DL_BADADDR      0x01  /* address or SAP not allowed */
 #define KUNGTHEVI_DL_ACCESS       0x02  /* the carrying stream is of another PPA or connectionless */
 #define KUNGTHEVI_DL_OUTSTATE     0x03  /* no row for this message in the stream's state and mode, or an accept offers a
                                            stream that is not idle */
 #define KUNGTHEVI_DL_BADCORR      0x05  /* the correlation number is not open here */
-#define KUNGTHEVI_DL_UNSUPPORTED  0x07  /* mode, connection management, type or class not supported */
+#define KUNGTHEVI_DL_UNSUPPORTED  0x07  /* mode, connection management or type not supported */
 #define KUNGTHEVI_DL_BADPPA       0x08  /* unknown PPA */
 #define KUNGTHEVI_DL_BADPRIM      0x09  /* no request, or too short for one */
 #define KUNGTHEVI_DL_BADQOSTYPE   0x0b  /* quality of service asked */
 #define KUNGTHEVI_DL_BADTOKEN     0x0c  /* token of no open stream */
 #define KUNGTHEVI_DL_BOUND        0x0d  /* another stream listens for that PPA and SAP */
 #define KUNGTHEVI_DL_NOTSUPPORTED 0x12  /* a request that this provider does not serve */
-#define KUNGTHEVI_DL_TOOMANY      0x13  /* a fifth further SAP */
 #define KUNGTHEVI_DL_NOAUTO       0x16  /* automatic XID or TEST asked */
 #define KUNGTHEVI_DL_PENDING      0x1b  /* others are open: this stream cannot carry the call itself */
 

@@ -14,12 +14,10 @@ enum {
     STREAMS = 16,
     PPAS = 8,
     INDICATIONS = 8, /* open ones that a stream holds at most */
-    FURTHER_SAPS = 4, /* beside the first, that a stream is bound to at most */
     MAC_SIZE = 6,
     ADDRESS_SIZE = MAC_SIZE + 1,      /* a MAC, then one byte of SAP */
     TYPE_ADDRESS_SIZE = MAC_SIZE + 2, /* a MAC, then two bytes of Ethernet type: the longest address */
-    NUMBER_SIZE = 4, /* of a PPA's number and of a correlation number */
-    SAP_PLACE_SIZE = 2 /* in the image, of a SAP as of a type */
+    NUMBER_SIZE = 4 /* of a PPA's number and of a correlation number */
 };
 
 /* Offsets in the image. */
@@ -48,16 +46,13 @@ enum {
     AT_GRANTED = 8,
     AT_INDICATIONS = 9,
     AT_NUMBERS = 10,
-    AT_FURTHER_COUNT = 42,
-    AT_FURTHER_SAPS = 43,
-    SLOT_SIZE = 51
+    SLOT_SIZE = 42
 };
 
 static_assert(AT_COUNTER + NUMBER_SIZE == AT_PPA_PLACES, "the places for PPAs stand behind the counter");
 static_assert(AT_PLACE_MAC + MAC_SIZE == PPA_PLACE_SIZE, "a place for a PPA ends with its MAC");
 static_assert(AT_PPA_PLACES + PPAS * PPA_PLACE_SIZE == AT_SLOTS, "the slots stand behind the places for PPAs");
-static_assert(AT_NUMBERS + INDICATIONS * NUMBER_SIZE == AT_FURTHER_COUNT, "further SAPs stand behind the numbers");
-static_assert(AT_FURTHER_SAPS + FURTHER_SAPS * SAP_PLACE_SIZE == SLOT_SIZE, "a slot ends with its further SAPs");
+static_assert(AT_NUMBERS + INDICATIONS * NUMBER_SIZE == SLOT_SIZE, "a slot ends with its places for numbers");
 static_assert(AT_SLOTS + STREAMS * SLOT_SIZE == KUNGTHEVI_TABLE_SIZE, "the image ends with its slots");
 
 /* Offsets in a record. */

@@ -4,7 +4,7 @@
 #include "../generate/generate.h"
 
 /* The number of streams is the seed, too, so that no two are alike. The generator is never told to end, as its last
- * record may be one that ends the reading. Nor is it told of further SAPs, so that the captures stay as they were. */
+ * record may be one that ends the reading. */
 void fill_mixed(struct capture *capture, unsigned streams)
 {
     struct generator generator;

@@ -10,8 +10,7 @@ enum {
     LEAST_BYTES = 100000000
 };
 
-/* The generator is never told to end, as its last record may be one that ends the reading. Nor is it told of further
- * SAPs, so that the capture stays as it was. */
+/* The generator is never told to end, as its last record may be one that ends the reading. */
 static bool write_records(FILE *file, struct long_capture *capture)
 {
     struct generator generator;

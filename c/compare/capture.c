@@ -9,7 +9,6 @@ void originals_generate(struct originals *originals, uint64_t seed, size_t count
 {
     struct generator generator;
     generate_start(&generator, seed, count);
-    generate_further(&generator);
     originals->count = 0;
     while (originals->count < count && generate_next(&generator, &originals->records[originals->count]))
         originals->count++;

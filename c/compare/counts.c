@@ -7,13 +7,7 @@
 #include "../generate/array.h"
 #include "../generate/record.h"
 
-/* Codes of messages up. */
-enum {
-    ERROR_ACK = 0x05,
-    OK_ACK = 0x06,
-    UDERROR_IND = 0x09,
-    SUBS_BIND_ACK = 0x1c
-};
+enum { UDERROR_IND = 0x09 };
 
 /* The paper's refusal numbers, and 0 for a call that is served. */
 static const struct {
@@ -41,19 +35,6 @@ static void add_datagram(struct counts *counts, const uint8_t *written)
     counts->wrong_datagrams += record_is_message(written) && get32(written + AT_BLOCK) == UDERROR_IND;
 }
 
-/* By the answer that a call wrote first. */
-static void add_further_sap(struct counts *counts, const uint8_t *written)
-{
-    uint32_t code = get32(written + AT_BLOCK);
-    uint32_t request = get32(written + AT_BLOCK + 4);
-    uint32_t error = get32(written + AT_BLOCK + 8);
-    if (!record_is_message(written))
-        return;
-    counts->further_bound += code == SUBS_BIND_ACK;
-    counts->further_dropped += code == OK_ACK && request == SUBS_UNBIND_REQ;
-    counts->further_too_many += code == ERROR_ACK && error == KUNGTHEVI_DL_TOOMANY;
-}
-
 /* A served frame writes a message and its M to each stream. */
 static void add_frame(struct counts *counts, uint32_t answer)
 {
@@ -67,10 +48,8 @@ void counts_add_call(struct counts *counts, const struct lending *lending, const
     counts->calls++;
     counts->refusals[KUNGTHEVI_REFUSAL(outcome->answer)]++;
     counts->rooms[is_frame ? FRAMES : OTHERS][lending->room_size]++;
-    if (KUNGTHEVI_WRITTEN(outcome->answer) > 0) {
+    if (KUNGTHEVI_WRITTEN(outcome->answer) > 0)
         add_datagram(counts, outcome->room);
-        add_further_sap(counts, outcome->room);
-    }
     if (is_frame)
         add_frame(counts, outcome->answer);
 }
@@ -110,8 +89,6 @@ void counts_print(const struct counts *counts)
            counts->wrong_datagrams, counts->datagrams_cut);
     printf("frames to no stream: %" PRIu64 ", to one: %" PRIu64 ", to several: %" PRIu64 "\n", counts->frames[0],
            counts->frames[1], frames_to_several(counts));
-    printf("further SAPs bound: %" PRIu64 ", dropped: %" PRIu64 ", too many: %" PRIu64 "\n", counts->further_bound,
-           counts->further_dropped, counts->further_too_many);
     printf("numbers of a SAP field: %" PRIu64 "\n", counts->numbers);
     printf("forms of captures: %" PRIu64 "\n", counts->forms);
     printf("counters moved on the way: %" PRIu64 "\n", counts->counters_moved);
@@ -152,9 +129,6 @@ static bool traffic_is_full(const struct counts *counts)
         { counts->datagrams_cut, "a datagram cut at each byte" },
         { counts->frames[0], "a frame to no stream" },
         { frames_to_several(counts), "a frame to several streams" },
-        { counts->further_bound, "a further SAP bound" },
-        { counts->further_dropped, "a further SAP dropped" },
-        { counts->further_too_many, "a further SAP too many" },
     };
     bool full = true;
     for (size_t i = 0; i < LENGTH_OF(traffic); i++)

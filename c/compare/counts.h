@@ -31,9 +31,6 @@ struct counts {
     uint64_t wrong_datagrams;           /* calls that answered one with DL_UDERROR_IND */
     uint64_t datagrams_cut;             /* datagrams that were cut at each byte */
     uint64_t frames[STREAMS + 1];       /* frames served by how many streams they came to */
-    uint64_t further_bound;             /* calls that bound a further SAP */
-    uint64_t further_dropped;           /* calls that dropped one alone */
-    uint64_t further_too_many;          /* calls that answered a fifth with DL_TOOMANY */
     uint64_t damaged_refused;           /* calls on a damaged image that were refused for it */
     uint64_t damaged_taken;             /* those that were not */
     uint64_t counters_moved;
@@ -48,8 +45,7 @@ void counts_add_damaged(struct counts *counts, uint32_t answer);
 void counts_print(const struct counts *counts);
 
 /* Whether calls reached each size of room near what they need, each refusal number, datagrams right and wrong, one cut
- * at each byte, frames to no stream and to several, and further SAPs bound, dropped and too many. Prints what is
- * missing. */
+ * at each byte, and frames to no stream and to several. Prints what is missing. */
 bool counts_are_full(const struct counts *counts);
 
 #endif

@@ -38,20 +38,6 @@ static uint8_t *draw_slot(struct dice *dice, uint8_t *image)
     return image + AT_SLOTS + SLOT_SIZE * dice_below(dice, STREAMS);
 }
 
-/* Half the time one that is bound in mode 2, if there is one: further SAPs may stand there alone. */
-static uint8_t *draw_slot_for_further(struct dice *dice, uint8_t *image)
-{
-    uint32_t start = dice_below(dice, STREAMS);
-    uint8_t *slots = image + AT_SLOTS;
-    bool any = dice_one_in(dice, 2);
-    for (uint32_t i = 0; i < STREAMS && !any; i++) {
-        uint8_t *slot = slots + SLOT_SIZE * ((start + i) % STREAMS);
-        if (slot[AT_MODE] == MODE_CONNECTIONLESS)
-            return slot;
-    }
-    return slots + SLOT_SIZE * start;
-}
-
 static uint8_t *draw_ppa_place(struct dice *dice, uint8_t *image)
 {
     return image + AT_PPA_PLACES + PPA_PLACE_SIZE * dice_below(dice, PPAS);
@@ -110,60 +96,7 @@ static void add_number(struct dice *dice, uint8_t *image)
 static void clear_numbers(struct dice *dice, uint8_t *image)
 {
     uint8_t *slot = draw_slot(dice, image);
-    memset(slot + AT_INDICATIONS, 0, AT_FURTHER_COUNT - AT_INDICATIONS);
-}
-
-/* The count, or a place, used or not. */
-static void harm_further(struct dice *dice, uint8_t *image)
-{
-    uint8_t *slot = draw_slot_for_further(dice, image);
-    uint32_t byte = dice_one_in(dice, 4) ? 0 : dice_below(dice, SLOT_SIZE - AT_FURTHER_COUNT);
-    harm_byte(dice, slot + AT_FURTHER_COUNT + byte);
-}
-
-/* The stream's first, one of its further ones, a SAP or an odd number, a type, or any number. */
-static uint16_t draw_further_sap(struct dice *dice, const uint8_t *slot)
-{
-    uint32_t drawn = dice_any(dice);
-    switch (dice_below(dice, 5)) {
-    case 0:
-        return get16(slot + AT_SAP);
-    case 1:
-        return get16(slot + AT_FURTHER_SAPS + SAP_PLACE_SIZE * (drawn % FURTHER_SAPS));
-    case 2:
-        return (uint16_t)(drawn % SAP_END);
-    case 3:
-        return (uint16_t)(TYPE_FIRST + drawn % (TYPE_LAST - TYPE_FIRST + 1));
-    default:
-        return (uint16_t)drawn;
-    }
-}
-
-/* One more, whether or not the stream may have it. */
-static void add_further(struct dice *dice, uint8_t *image)
-{
-    uint8_t *slot = draw_slot_for_further(dice, image);
-    uint16_t sap = draw_further_sap(dice, slot);
-    if (slot[AT_FURTHER_COUNT] >= FURTHER_SAPS)
-        return;
-    put16(slot + AT_FURTHER_SAPS + SAP_PLACE_SIZE * slot[AT_FURTHER_COUNT], sap);
-    slot[AT_FURTHER_COUNT]++;
-}
-
-/* One of them, or a place where none is. */
-static void change_further(struct dice *dice, uint8_t *image)
-{
-    uint8_t *slot = draw_slot_for_further(dice, image);
-    uint16_t sap = draw_further_sap(dice, slot);
-    put16(slot + AT_FURTHER_SAPS + SAP_PLACE_SIZE * dice_below(dice, FURTHER_SAPS), sap);
-}
-
-/* From mode 2 to mode 1, in which a SAP may stand, but no further one. */
-static void change_mode(struct dice *dice, uint8_t *image)
-{
-    uint8_t *slot = draw_slot_for_further(dice, image);
-    if (slot[AT_MODE] == MODE_CONNECTIONLESS)
-        slot[AT_MODE] = MODE_CONNECTION;
+    memset(slot + AT_INDICATIONS, 0, SLOT_SIZE - AT_INDICATIONS);
 }
 
 /* Two PPAs of one number. */
@@ -193,8 +126,7 @@ static void repeat_number(struct dice *dice, uint8_t *image)
 
 static harm *const harms[] = {
     harm_any, harm_any, harm_header, harm_header, harm_ppa, harm_slot, harm_slot, change_standing, change_standing,
-    change_standing, add_number, clear_numbers, repeat_ppa, repeat_slot, repeat_number, harm_further, add_further,
-    add_further, change_further, change_mode
+    change_standing, add_number, clear_numbers, repeat_ppa, repeat_slot, repeat_number
 };
 
 /* --- The image */

@@ -15,8 +15,6 @@ void run_refusals(struct checks *checks);
 void run_errors(struct checks *checks);
 void run_datagrams(struct checks *checks);
 void run_frames(struct checks *checks);
-void run_further(struct checks *checks);
-void run_unsound(struct checks *checks);
 void run_states(struct checks *checks);
 void run_saps(struct checks *checks);
 

@@ -17,8 +17,6 @@ int main(void)
     run_errors(&checks);
     run_datagrams(&checks);
     run_frames(&checks);
-    run_further(&checks);
-    run_unsound(&checks);
     run_states(&checks);
     run_saps(&checks);
     printf("%u passed, %u failed\n", checks.passed, checks.failed);

@@ -64,11 +64,7 @@ bool all_are(const uint8_t *bytes, size_t size, uint8_t byte);
 /* Or to Ethernet type 0x0800. */
 #define TYPE_BOARD TWO_STREAMS ATTACH("00", "00000001") BIND_FOR_DATAGRAMS("00", "00000800")
 
-/* Stream 0 is bound to a further SAP, of one byte. */
-#define BIND_FURTHER(sap) "P 00 11 0000001b 00000010 00000001 00000001 " sap ";"
-#define FOUR_FURTHER BIND_FURTHER("82") BIND_FURTHER("84") BIND_FURTHER("86") BIND_FURTHER("88")
-
-/* From stream 0 of the former board. */
+/* From the former. */
 #define DATAGRAM_ALONE "P 00 1b 00000007 00000007 00000014 00000000 00000000 02000000000284"
 #define DATAGRAM DATAGRAM_ALONE "+ M 00 02 6869;"
 

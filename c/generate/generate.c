@@ -31,8 +31,6 @@ static const struct choice choices[] = {
     { 12, make_right_request, RESET_REQ },
     { 5, make_right_request, RESET_RES },
     { 12, make_right_request, UNITDATA_REQ },
-    { 32, make_right_request, SUBS_BIND_REQ },
-    { 10, make_right_request, SUBS_UNBIND_REQ },
 
     { 3, make_wrong_request, ATTACH_REQ },
     { 20, make_wrong_request, BIND_REQ },
@@ -40,8 +38,6 @@ static const struct choice choices[] = {
     { 40, make_wrong_request, CONNECT_RES },
     { 6, make_wrong_request, DISCONNECT_REQ },
     { 10, make_wrong_request, UNITDATA_REQ },
-    { 20, make_wrong_request, SUBS_BIND_REQ },
-    { 12, make_wrong_request, SUBS_UNBIND_REQ },
     { 24, make_misplaced_request, 0 },
     { 6, make_cut_request, 0 },
 
@@ -104,19 +100,7 @@ static uint16_t plan_type(struct dice *dice)
     return types[dice_below(dice, LENGTH_OF(types))];
 }
 
-static bool is_of_further_saps(const struct choice *choice)
-{
-    return choice->subject == SUBS_BIND_REQ || choice->subject == SUBS_UNBIND_REQ;
-}
-
 /* A line's weight is up to eight times that in the table, so that a capture has its own leanings. */
-static void plan_weights(struct plan *plan, struct dice *dice, bool further)
-{
-    for (size_t i = 0; i < CHOICES; i++)
-        if (is_of_further_saps(&choices[i]) == further)
-            plan->weights[i] = choices[i].weight << dice_below(dice, 4);
-}
-
 static void plan_capture(struct plan *plan, struct dice *dice)
 {
     plan->additions = plan_additions(dice);
@@ -127,7 +111,8 @@ static void plan_capture(struct plan *plan, struct dice *dice)
     for (unsigned i = 0; i < PLAN_TYPES; i++)
         plan->types[i] = plan_type(dice);
     plan->connectionless = dice_one_in(dice, 3) ? 2 : 6;
-    plan_weights(plan, dice, false);
+    for (size_t i = 0; i < CHOICES; i++)
+        plan->weights[i] = choices[i].weight << dice_below(dice, 4);
 }
 
 void generate_start(struct generator *generator, uint64_t seed, uint64_t calls)
@@ -135,12 +120,6 @@ void generate_start(struct generator *generator, uint64_t seed, uint64_t calls)
     *generator = (struct generator){ .dice = dice_from_seed(seed), .calls = calls };
     plan_capture(&generator->plan, &generator->dice);
     (void)second_fresh(generator->table, sizeof generator->table);
-}
-
-void generate_further(struct generator *generator)
-{
-    generator->plan.further = true;
-    plan_weights(&generator->plan, &generator->dice, true);
 }
 
 /* --- The next record */

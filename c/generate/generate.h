@@ -4,11 +4,7 @@
 
 #include "generator.h"
 
-/* Begins a capture in which no stream is bound to further SAPs. */
 void generate_start(struct generator *generator, uint64_t seed, uint64_t calls);
-
-/* Makes it one in which streams are. Stands behind generate_start, before the first record. */
-void generate_further(struct generator *generator);
 
 /* Makes the record of the next call, a datagram with its M; false after the last. */
 bool generate_next(struct generator *generator, struct record *record);

@@ -23,10 +23,9 @@ struct plan {
     unsigned streams;        /* how many streams are opened at most */
     bool ends_reading;       /* the last record is cut or of an unknown kind */
     uint32_t connectionless; /* of so many binds to a SAP one is in mode 2 */
-    bool further;            /* streams are bound to further SAPs */
     uint8_t saps[PLAN_SAPS];
     uint16_t types[PLAN_TYPES];
-    uint32_t weights[PLAN_WEIGHTS]; /* of the lines in the table of choices, 0 for those that the plan leaves out */
+    uint32_t weights[PLAN_WEIGHTS]; /* of the lines in the table of choices */
 };
 
 struct generator {

@@ -73,29 +73,6 @@ unsigned image_address_size(const uint8_t *image, unsigned stream)
     return image_sap(image, stream) < TYPE_FIRST ? ADDRESS_SIZE : TYPE_ADDRESS_SIZE;
 }
 
-unsigned image_sap_size(const uint8_t *image, unsigned stream)
-{
-    return image_address_size(image, stream) - MAC_SIZE;
-}
-
-unsigned image_further_saps(const uint8_t *image, unsigned stream)
-{
-    return slot(image, stream)[AT_FURTHER_COUNT];
-}
-
-unsigned image_further_sap(const uint8_t *image, unsigned stream, unsigned place)
-{
-    return get16(slot(image, stream) + AT_FURTHER_SAPS + SAP_PLACE_SIZE * place);
-}
-
-bool image_is_bound_to(const uint8_t *image, unsigned stream, unsigned sap)
-{
-    for (unsigned place = 0; place < image_further_saps(image, stream); place++)
-        if (image_further_sap(image, stream, place) == sap)
-            return true;
-    return image_sap(image, stream) == sap;
-}
-
 uint32_t image_ppa(const uint8_t *image, unsigned stream)
 {
     return get32(slot(image, stream) + AT_SLOT_PPA);

@@ -23,16 +23,6 @@ unsigned image_sap(const uint8_t *image, unsigned stream);
 /* Of the stream's address, by its SAP or type; that of an unbound stream is as for a SAP. */
 unsigned image_address_size(const uint8_t *image, unsigned stream);
 
-/* Of its SAP or type alone. */
-unsigned image_sap_size(const uint8_t *image, unsigned stream);
-
-/* How many further SAPs the stream is bound to, and the one at a place of its list. */
-unsigned image_further_saps(const uint8_t *image, unsigned stream);
-unsigned image_further_sap(const uint8_t *image, unsigned stream, unsigned place);
-
-/* Whether the stream is bound to the SAP, as its first or as a further one. */
-bool image_is_bound_to(const uint8_t *image, unsigned stream, unsigned sap);
-
 uint32_t image_ppa(const uint8_t *image, unsigned stream);
 unsigned image_granted(const uint8_t *image, unsigned stream);
 unsigned image_indications(const uint8_t *image, unsigned stream);

@@ -10,7 +10,6 @@ static bool write_capture(uint64_t seed, uint64_t calls)
     struct generator generator;
     struct record record;
     generate_start(&generator, seed, calls);
-    generate_further(&generator);
     while (generate_next(&generator, &record))
         if (fwrite(record.bytes, 1, record.size, stdout) != record.size)
             return false;

@@ -19,7 +19,7 @@ static void put_frame(struct generator *generator, struct record *record, unsign
     put32(record->bytes + AT_PPA, image_ppa_number(generator->table, place));
     record->bytes[AT_FRAME_ADDRESS_LENGTH] = (uint8_t)size;
     memcpy(record->bytes + AT_FRAME_CALLED, image_ppa_mac(generator->table, place), MAC_SIZE);
-    put_sap(record->bytes + AT_FRAME_CALLED + MAC_SIZE, size - MAC_SIZE, sap);
+    put_sap(record->bytes + AT_FRAME_CALLED, size, sap);
     pick_bytes(generator, record->bytes + AT_FRAME_CALLING, size);
     data_fill(generator, record->bytes + AT_FRAME_DATA_LENGTH);
 }
@@ -32,8 +32,8 @@ bool make_frame(struct generator *generator, uint32_t subject, struct record *re
         return false;
     unsigned stream = (unsigned)found;
     int place = image_find_ppa(generator->table, image_ppa(generator->table, stream));
-    unsigned sap = pick_bound_sap(generator, stream);
-    put_frame(generator, record, (unsigned)place, image_address_size(generator->table, stream), sap);
+    put_frame(generator, record, (unsigned)place, image_address_size(generator->table, stream),
+              image_sap(generator->table, stream));
     return true;
 }
 

@@ -15,10 +15,9 @@ static bool make_with_code(struct generator *generator, uint32_t code, struct re
     return true;
 }
 
-/* Those that are not supported, and the two for further SAPs without their fields. */
 bool make_unsupported(struct generator *generator, uint32_t subject, struct record *record)
 {
-    static const uint8_t codes[] = { 0x0a, SUBS_UNBIND_REQ, SUBS_BIND_REQ, 0x1d, 0x1e, 0x1f, 0x20 };
+    static const uint8_t codes[] = { 0x0a, 0x15, 0x1b, 0x1d, 0x1e, 0x1f, 0x20 };
     (void)subject;
     return make_with_code(generator, codes[dice_below(&generator->dice, LENGTH_OF(codes))], record);
 }

@@ -8,11 +8,7 @@
 static const struct request *const requests[] = {
     &request_info, &request_token, &request_attach, &request_detach, &request_bind, &request_unbind,
     &request_connect, &request_accept, &request_disconnect, &request_reset, &request_reset_answer, &request_datagram,
-    &request_further_bind, &request_further_unbind,
 };
-
-/* The last ones, which not every capture has. */
-enum { FURTHER_REQUESTS = 2 };
 
 /* The request of that code, which is one of those above. */
 static const struct request *find_request(uint32_t code)
@@ -25,8 +21,7 @@ static const struct request *find_request(uint32_t code)
 
 static const struct request *pick_request(struct generator *generator)
 {
-    uint32_t count = LENGTH_OF(requests) - (generator->plan.further ? 0 : FURTHER_REQUESTS);
-    return requests[dice_below(&generator->dice, count)];
+    return requests[dice_below(&generator->dice, LENGTH_OF(requests))];
 }
 
 /* Fills a request for an open stream in one of the states. */

@@ -150,46 +150,6 @@ unsigned pick_type(struct generator *generator)
     return generator->plan.types[dice_below(&generator->dice, PLAN_TYPES)];
 }
 
-unsigned pick_sap_of_size(struct generator *generator, unsigned size)
-{
-    return size == 1 ? pick_sap(generator) : pick_type(generator);
-}
-
-/* Odd, or reserved. */
-static unsigned pick_no_sap(struct generator *generator)
-{
-    return dice_one_in(&generator->dice, 2) ? SAP_RESERVED : pick_sap(generator) | 1;
-}
-
-/* Under the first: that before it, a SAP in two bytes, or any. */
-static unsigned pick_no_type(struct generator *generator)
-{
-    if (dice_one_in(&generator->dice, 3))
-        return TYPE_FIRST - 1;
-    return dice_one_in(&generator->dice, 2) ? pick_sap(generator) : dice_below(&generator->dice, TYPE_FIRST);
-}
-
-unsigned pick_no_sap_of_size(struct generator *generator, unsigned size)
-{
-    return size == 1 ? pick_no_sap(generator) : pick_no_type(generator);
-}
-
-unsigned pick_bound_sap(struct generator *generator, unsigned stream)
-{
-    unsigned count = image_further_saps(generator->table, stream);
-    unsigned place = count == 0 ? 0 : dice_below(&generator->dice, 1 + count);
-    return place == 0 ? image_sap(generator->table, stream) : image_further_sap(generator->table, stream, place - 1);
-}
-
-unsigned pick_absent_sap(struct generator *generator, unsigned stream)
-{
-    for (;;) {
-        unsigned sap = pick_sap_of_size(generator, image_sap_size(generator->table, stream));
-        if (!image_is_bound_to(generator->table, stream, sap))
-            return sap;
-    }
-}
-
 uint32_t pick_awkward(struct generator *generator)
 {
     static const uint32_t numbers[] = {

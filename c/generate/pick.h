@@ -38,16 +38,6 @@ uint32_t pick_small_code(struct generator *generator);
 unsigned pick_sap(struct generator *generator);
 unsigned pick_type(struct generator *generator);
 
-/* A SAP if the size is one byte, or a type if it is two; and a number of that size that no bind could take. */
-unsigned pick_sap_of_size(struct generator *generator, unsigned size);
-unsigned pick_no_sap_of_size(struct generator *generator, unsigned size);
-
-/* One that the stream is bound to, the first or a further one. */
-unsigned pick_bound_sap(struct generator *generator, unsigned stream);
-
-/* One of the stream's form that it is not bound to. */
-unsigned pick_absent_sap(struct generator *generator, unsigned stream);
-
 /* A number that is apt to be handled wrongly. */
 uint32_t pick_awkward(struct generator *generator);
 

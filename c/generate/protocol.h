@@ -35,9 +35,6 @@ enum {
     TYPE_LAST = 0xffff
 };
 
-/* The class of a bind to a further SAP. */
-enum { CLASS_PEER = 1 };
-
 /* Codes of the requests that are served, and one past all that DLPI's requests and replies have here. */
 enum {
     INFO_REQ = 0x00,
@@ -50,10 +47,8 @@ enum {
     CONNECT_RES = 0x0f,
     TOKEN_REQ = 0x11,
     DISCONNECT_REQ = 0x13,
-    SUBS_UNBIND_REQ = 0x15,
     RESET_REQ = 0x17,
     RESET_RES = 0x19,
-    SUBS_BIND_REQ = 0x1b,
     SMALL_CODES = 0x22
 };
 
@@ -78,10 +73,7 @@ enum {
     AT_ACCEPT_QOS_OFFSET = 16,
     AT_ACCEPT_GROWTH = 20,
     AT_DISCONNECT_REASON = 4,
-    AT_DISCONNECT_NUMBER = 8,
-    AT_FURTHER_OFFSET = 4, /* in SUBS_BIND_REQ and SUBS_UNBIND_REQ */
-    AT_FURTHER_LENGTH = 8,
-    AT_FURTHER_CLASS = 12 /* in the former */
+    AT_DISCONNECT_NUMBER = 8
 };
 
 /* The least L of a complete message. */
@@ -92,9 +84,7 @@ enum {
     DATAGRAM_SIZE = 20,
     CONNECT_SIZE = 24,
     ACCEPT_SIZE = 24,
-    DISCONNECT_SIZE = 12,
-    SUBS_BIND_SIZE = 16,
-    SUBS_UNBIND_SIZE = 12
+    DISCONNECT_SIZE = 12
 };
 
 #endif

@@ -88,10 +88,10 @@ void put32(uint8_t *bytes, uint32_t value)
     put16(bytes + 2, (uint16_t)value);
 }
 
-void put_sap(uint8_t *bytes, unsigned size, unsigned sap)
+void put_sap(uint8_t *address, unsigned size, unsigned sap)
 {
-    if (size == 1)
-        bytes[0] = (uint8_t)sap;
+    if (size == ADDRESS_SIZE)
+        address[MAC_SIZE] = (uint8_t)sap;
     else
-        put16(bytes, (uint16_t)sap);
+        put16(address + MAC_SIZE, (uint16_t)sap);
 }

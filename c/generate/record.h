@@ -50,7 +50,7 @@ uint32_t get32(const uint8_t *bytes);
 void put16(uint8_t *bytes, uint16_t value);
 void put32(uint8_t *bytes, uint32_t value);
 
-/* Puts a SAP in one byte, or a type in two. */
-void put_sap(uint8_t *bytes, unsigned size, unsigned sap);
+/* Puts SAP or type behind the MAC of an address of so many bytes. */
+void put_sap(uint8_t *address, unsigned size, unsigned sap);
 
 #endif

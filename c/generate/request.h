@@ -37,23 +37,18 @@ extern const struct request request_connect;
 extern const struct request request_accept;
 extern const struct request request_disconnect;
 
-/* request_further.c */
-extern const struct request request_further_bind;
-extern const struct request request_further_unbind;
-
 /* A QOS length that is not 0; CONNECT_REQ and CONNECT_RES have it at the same place. */
 change request_spoil_qos;
 
-/* request_part.c: some requests name a part of the message by its length and its offset, which holds an address, or a
- * SAP alone. */
+/* request_address.c: CONNECT_REQ and UNITDATA_REQ have length and offset of an address at the same places. */
 
-/* Finishes the message with a part of so many bytes, any ones, and returns where it stands. */
-uint8_t *request_fill_part(struct generator *generator, struct record *record, unsigned size);
+/* Finishes the message with an address of so many bytes, any ones, and returns where it stands. */
+uint8_t *request_fill_address(struct generator *generator, struct record *record, unsigned size);
 
-/* Where the part of so many bytes stands, or NULL if its offset is not that of one within the message. */
-uint8_t *request_find_part(struct record *record, unsigned size);
+/* Where the address of so many bytes stands, or NULL if its offset is not that of one within the message. */
+uint8_t *request_find_address(struct record *record, unsigned size);
 
-change request_spoil_part_length;
+change request_spoil_address_length;
 change request_spoil_offset_to_early;
 change request_spoil_offset_to_late;
 change request_spoil_offset_to_wrapping;

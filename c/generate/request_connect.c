@@ -17,7 +17,7 @@ static void fill_connect(struct generator *generator, unsigned stream, struct re
     (void)stream;
     message_put32(record, AT_CONNECT_QOS_OFFSET, pick_awkward(generator));
     message_put32(record, AT_CONNECT_GROWTH, pick_awkward(generator));
-    uint8_t *address = request_fill_part(generator, record, ADDRESS_SIZE);
+    uint8_t *address = request_fill_address(generator, record, ADDRESS_SIZE);
     address[MAC_SIZE] &= 0xfe;
 }
 
@@ -34,13 +34,13 @@ static void spoil_destination_sap(struct generator *generator, unsigned stream, 
 {
     (void)generator;
     (void)stream;
-    uint8_t *address = request_find_part(record, ADDRESS_SIZE);
+    uint8_t *address = request_find_address(record, ADDRESS_SIZE);
     if (address != NULL)
         address[MAC_SIZE] |= 1;
 }
 
 static change *const connect_spoilers[] = {
-    request_spoil_qos, request_spoil_part_length, request_spoil_offset_to_early, request_spoil_offset_to_late,
+    request_spoil_qos, request_spoil_address_length, request_spoil_offset_to_early, request_spoil_offset_to_late,
     request_spoil_offset_to_wrapping, spoil_destination_sap
 };
 

@@ -46,16 +46,11 @@ static bool has_row(const struct stream *stream)
     return stream->state == IDLE && stream->mode == CONNECTIONLESS;
 }
 
-/* The SAP or the Ethernet type of an address of that length. */
-static uint16_t sap_of(const uint8_t *address, size_t address_length)
+/* In an address of that length, 1 byte is a SAP and 2 are a type. */
+static bool could_be_bound(const uint8_t *sap, size_t address_length)
 {
-    return second_sap_at(address + MAC_SIZE, address_length - MAC_SIZE);
-}
-
-static bool could_be_bound(const uint8_t *address, size_t address_length)
-{
-    return second_could_be_bound(sap_of(address, address_length),
-                                 address_length - MAC_SIZE);
+    return address_length == PEER_ADDRESS_SIZE ? second_is_sap(sap[0])
+                                               : second_is_type(get16(sap));
 }
 
 /*
@@ -75,7 +70,7 @@ static const uint8_t *destination(const struct datagram *datagram)
         return NULL;
 
     address = datagram->message + offset;
-    return could_be_bound(address, form) ? address : NULL;
+    return could_be_bound(address + MAC_SIZE, form) ? address : NULL;
 }
 
 /* Of full size: gives the first error that applies, or sends to the line. */
@@ -116,16 +111,20 @@ enum refusal second_take_datagram(const struct table *table,
     return SERVED;
 }
 
-/*
- * The stream is bound, for that PPA, to that SAP in that form, by its first SAP
- * or by a further one.
- */
+/* The SAP or the Ethernet type of the called address. */
+static uint16_t called_sap(const struct frame *frame)
+{
+    const uint8_t *sap = frame->called + MAC_SIZE;
+
+    return frame->address_length == PEER_ADDRESS_SIZE ? sap[0] : get16(sap);
+}
+
+/* The stream is bound, for that PPA, to that SAP in that form. */
 static bool is_for(const struct frame *frame, const struct stream *stream)
 {
     return has_row(stream) && stream->ppa.value == frame->ppa.value
         && second_address_length(stream->sap) == frame->address_length
-        && second_is_bound_to(stream,
-                              sap_of(frame->called, frame->address_length));
+        && stream->sap == called_sap(frame);
 }
 
 static void indicate(const struct frame *frame, unsigned s,

@@ -15,11 +15,8 @@ enum {
     PPA_PLACES = 8,
     PPA_PLACE_SIZE = 10,
     SLOTS = 88,
-    SLOT_SIZE = 51
+    SLOT_SIZE = 42
 };
-
-_Static_assert(SLOTS + STREAMS * SLOT_SIZE == SECOND_TABLE_SIZE,
-               "the slots end where the image ends");
 
 /* Where a place for a PPA holds what. */
 enum {
@@ -36,10 +33,7 @@ enum {
     SLOT_GRANTED = 8,
     SLOT_INDICATIONS = 9,
     SLOT_NUMBERS = 10,
-    SLOT_NUMBER_SIZE = 4,
-    SLOT_FURTHER_COUNT = 42,
-    SLOT_FURTHER = 43,
-    SLOT_FURTHER_SIZE = 2
+    SLOT_NUMBER_SIZE = 4
 };
 
 static bool ppas_are_tidy(const uint8_t *image)
@@ -51,28 +45,14 @@ static bool ppas_are_tidy(const uint8_t *image)
                     (PPAS - count) * PPA_PLACE_SIZE);
 }
 
-static bool numbers_are_tidy(const uint8_t *slot)
+static bool slot_is_tidy(const uint8_t *slot)
 {
     size_t count = slot[SLOT_INDICATIONS];
 
-    return count <= INDICATIONS
+    return second_state_has_row(slot[SLOT_STATE])
+        && count <= INDICATIONS
         && all_zero(slot + SLOT_NUMBERS + count * SLOT_NUMBER_SIZE,
                     (INDICATIONS - count) * SLOT_NUMBER_SIZE);
-}
-
-static bool further_saps_are_tidy(const uint8_t *slot)
-{
-    size_t count = slot[SLOT_FURTHER_COUNT];
-
-    return count <= FURTHER_SAPS
-        && all_zero(slot + SLOT_FURTHER + count * SLOT_FURTHER_SIZE,
-                    (FURTHER_SAPS - count) * SLOT_FURTHER_SIZE);
-}
-
-static bool slot_is_tidy(const uint8_t *slot)
-{
-    return second_state_has_row(slot[SLOT_STATE]) && numbers_are_tidy(slot)
-        && further_saps_are_tidy(slot);
 }
 
 static bool is_tidy(const uint8_t *image, size_t length)
@@ -110,10 +90,6 @@ static void read_slot(const uint8_t *slot, struct stream *stream)
     for (unsigned i = 0; i < INDICATIONS; i++)
         stream->indication[i].value =
             get32(slot + SLOT_NUMBERS + i * SLOT_NUMBER_SIZE);
-    stream->further_saps = slot[SLOT_FURTHER_COUNT];
-    for (unsigned i = 0; i < FURTHER_SAPS; i++)
-        stream->further_sap[i] =
-            get16(slot + SLOT_FURTHER + i * SLOT_FURTHER_SIZE);
 }
 
 static void write_slot(const struct stream *stream, uint8_t *slot)
@@ -127,10 +103,6 @@ static void write_slot(const struct stream *stream, uint8_t *slot)
     for (unsigned i = 0; i < INDICATIONS; i++)
         put32(slot + SLOT_NUMBERS + i * SLOT_NUMBER_SIZE,
               stream->indication[i].value);
-    slot[SLOT_FURTHER_COUNT] = stream->further_saps;
-    for (unsigned i = 0; i < FURTHER_SAPS; i++)
-        put16(slot + SLOT_FURTHER + i * SLOT_FURTHER_SIZE,
-              stream->further_sap[i]);
 }
 
 /* Bit s of the mask is 1 exactly if stream s is closed. */

@@ -10,12 +10,11 @@ enum {
     UNBOUND_MODE = 3, /* INFO_ACK's mode while unbound */
     STYLE_2 = 0x0501,
     DLPI_VERSION = 2,
-    INFO_ACK_SIZE = 76, /* the fixed sizes, before addresses and SAPs */
+    INFO_ACK_SIZE = 76, /* the fixed sizes, before the addresses */
     BIND_ACK_SIZE = 24,
     CONNECT_IND_SIZE = 36,
     CONNECT_CON_SIZE = 24,
     UNITDATA_IND_SIZE = 24,
-    SUBS_BIND_ACK_SIZE = 12,
     ORIGINATOR = 0x0701 /* of every disconnect and reset */
 };
 
@@ -49,11 +48,11 @@ static struct message begin(enum message_code code)
     return message;
 }
 
-/* Codes 0x03 to 0x06, 0x12 and 0x1c go up as M_PCPROTO, others as M_PROTO. */
+/* Codes 0x03 to 0x06 and 0x12 go up as M_PCPROTO, the others as M_PROTO. */
 static enum kind_of_message kind_of(uint32_t code)
 {
     bool acknowledges = (code >= INFO_ACK && code <= OK_ACK)
-        || code == TOKEN_ACK || code == SUBS_BIND_ACK;
+        || code == TOKEN_ACK;
 
     return acknowledges ? M_PCPROTO : M_PROTO;
 }
@@ -281,16 +280,5 @@ void second_send_uderror_ind(struct outcome *outcome, unsigned s,
     add_field(&message, 0); /* address offset */
     add_field(&message, 0); /* system error */
     add_field(&message, error);
-    send_up(outcome, s, &message);
-}
-
-void second_send_subs_bind_ack(struct outcome *outcome, unsigned s,
-                               const uint8_t *sap, size_t sap_length)
-{
-    struct message message = begin(SUBS_BIND_ACK);
-
-    add_field(&message, SUBS_BIND_ACK_SIZE);
-    add_field(&message, (uint32_t)sap_length);
-    add_part(&message, sap, sap_length);
     send_up(outcome, s, &message);
 }

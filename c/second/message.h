@@ -29,13 +29,10 @@ enum message_code {
     TOKEN_ACK = 0x12,
     DISCONNECT_REQ = 0x13,
     DISCONNECT_IND = 0x14,
-    SUBS_UNBIND_REQ = 0x15,
     RESET_REQ = 0x17,
     RESET_IND = 0x18,
     RESET_RES = 0x19,
-    RESET_CON = 0x1a,
-    SUBS_BIND_REQ = 0x1b,
-    SUBS_BIND_ACK = 0x1c
+    RESET_CON = 0x1a
 };
 
 enum dl_error {
@@ -51,7 +48,6 @@ enum dl_error {
     BADTOKEN = 0x0c,
     BOUND = 0x0d,
     NOTSUPPORTED = 0x12,
-    TOOMANY = 0x13,
     NOAUTO = 0x16,
     PENDING = 0x1b
 };
@@ -84,9 +80,5 @@ void second_send_unitdata_ind(struct outcome *outcome, unsigned s,
                               size_t address_length);
 void second_send_uderror_ind(struct outcome *outcome, unsigned s,
                              enum dl_error error);
-
-/* Gives back the SAP as the request named it. */
-void second_send_subs_bind_ack(struct outcome *outcome, unsigned s,
-                               const uint8_t *sap, size_t sap_length);
 
 #endif

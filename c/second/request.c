@@ -1,11 +1,19 @@
 /* request.c - the requests, their order of errors and their state rows. */
 #include "request.h"
 
-#include "asking.h"
 #include "bytes.h"
-#include "further.h"
 #include "message.h"
 #include "sap.h"
+
+/* A request under way: stream s asks with a message. */
+struct asking {
+    struct table *table;
+    struct stream *stream;
+    unsigned s;
+    const uint8_t *message;
+    size_t length;
+    struct outcome *outcome;
+};
 
 /*
  * A request and its state rows. Its serve function gives the errors of the
@@ -19,6 +27,17 @@ struct request {
     bool mode_1_only;     /* rows are for streams bound in mode 1 */
     enum dl_error (*serve)(const struct asking *asking);
 };
+
+/* The 4-byte field at a place in the message. */
+static uint32_t field(const struct asking *asking, size_t offset)
+{
+    return get32(asking->message + offset);
+}
+
+static void send_ok(const struct asking *asking)
+{
+    second_send_ok_ack(asking->outcome, asking->s, field(asking, 0));
+}
 
 static enum dl_error serve_info(const struct asking *asking)
 {
@@ -128,7 +147,6 @@ static enum dl_error serve_unbind(const struct asking *asking)
     asking->stream->mode = NO_MODE;
     asking->stream->sap = 0;
     asking->stream->granted = 0;
-    second_lose_all_further_saps(asking->stream);
     asking->stream->state = UNBOUND;
     second_out_flush(asking->outcome, asking->s);
     send_ok(asking);
@@ -307,10 +325,6 @@ static const struct request requests[] = {
     { DISCONNECT_REQ, 12, DISCONNECT_STATES, true, serve_disconnect },
     { RESET_REQ, 4, FROM(CONNECTED), true, serve_reset },
     { RESET_RES, 4, FROM(PROVIDER_RESET_PENDING), true, serve_reset_response },
-    { SUBS_BIND_REQ, SUBS_BIND_REQ_SIZE, FROM(IDLE), false,
-      second_serve_subs_bind },
-    { SUBS_UNBIND_REQ, SUBS_UNBIND_REQ_SIZE, FROM(IDLE), false,
-      second_serve_subs_unbind },
 };
 
 /* NULL if the code is not served as a request. */
@@ -326,7 +340,8 @@ static const struct request *find_request(uint32_t code)
 
 static bool is_known_but_not_supported(uint32_t code)
 {
-    return code == 0x0a || (code >= 0x1d && code <= 0x20);
+    return code == 0x0a || code == 0x15 || code == 0x1b
+        || (code >= 0x1d && code <= 0x20);
 }
 
 static bool has_row(const struct request *request, const struct stream *stream)

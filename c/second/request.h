@@ -1,6 +1,6 @@
 /*
- * request.h - the requests, their order of errors and their state rows; what
- * serves further SAPs is in further.h, datagrams are in datagram.h.
+ * request.h - the requests, their order of errors and their state rows; those
+ * of datagrams are in datagram.h.
  */
 #ifndef REQUEST_H
 #define REQUEST_H

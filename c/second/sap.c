@@ -52,24 +52,14 @@ uint32_t second_sap(uint32_t number)
         | (uint32_t)excluded->exclusion << 8;
 }
 
-bool second_could_be_bound(uint32_t value, size_t length)
-{
-    return second_sap(value) == length;
-}
-
 bool second_is_sap(uint32_t value)
 {
-    return second_could_be_bound(value, SAP_LENGTH);
+    return second_sap(value) == SAP_LENGTH;
 }
 
 bool second_is_type(uint32_t value)
 {
-    return second_could_be_bound(value, TYPE_LENGTH);
-}
-
-uint16_t second_sap_at(const uint8_t *place, size_t length)
-{
-    return length == SAP_LENGTH ? place[0] : get16(place);
+    return second_sap(value) == TYPE_LENGTH;
 }
 
 size_t second_sap_length(uint16_t sap)

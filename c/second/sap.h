@@ -37,12 +37,6 @@ enum section {
 bool second_is_sap(uint32_t value);
 bool second_is_type(uint32_t value);
 
-/* In the form of that length, 1 byte is a SAP and 2 are a type. */
-bool second_could_be_bound(uint32_t value, size_t length);
-
-/* The number that stands at a place in that form. */
-uint16_t second_sap_at(const uint8_t *place, size_t length);
-
 /*
  * The length of a bound stream's SAP, 1 or 2. The form follows from the
  * number, not from the mode.

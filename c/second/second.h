@@ -18,7 +18,7 @@
 #include <stddef.h>
 #include <stdint.h>
 
-#define SECOND_TABLE_SIZE 904
+#define SECOND_TABLE_SIZE 760
 
 /* A call needs this much room, however little it writes. */
 #define SECOND_ROOM_SIZE 128

@@ -53,43 +53,10 @@ static bool indications_are_sound(const struct stream *stream)
     return stream->indications >= 1 && stream->indications <= stream->granted;
 }
 
-/* A bind could take each in the first one's form. */
-static bool further_saps_could_be_bound(const struct stream *stream)
-{
-    size_t length = second_sap_length(stream->sap);
-
-    for (unsigned i = 0; i < stream->further_saps; i++)
-        if (!second_could_be_bound(stream->further_sap[i], length))
-            return false;
-    return true;
-}
-
-/* All are different, and none is the first. */
-static bool saps_differ(const struct stream *stream)
-{
-    for (unsigned i = 0; i < stream->further_saps; i++) {
-        if (stream->further_sap[i] == stream->sap)
-            return false;
-        for (unsigned j = 0; j < i; j++)
-            if (stream->further_sap[i] == stream->further_sap[j])
-                return false;
-    }
-    return true;
-}
-
-/* Only state 6 in mode 2 has further SAPs. */
-static bool further_saps_are_sound(const struct stream *stream)
-{
-    if (stream->state != IDLE || stream->mode != CONNECTIONLESS)
-        return stream->further_saps == 0;
-    return further_saps_could_be_bound(stream) && saps_differ(stream);
-}
-
 static bool closed_and_empty(const struct stream *stream)
 {
     return stream->state == UNATTACHED && stream->ppa.value == 0
-        && holds_no_binding(stream) && stream->indications == 0
-        && stream->further_saps == 0;
+        && holds_no_binding(stream) && stream->indications == 0;
 }
 
 static bool stream_is_sound(const struct table *table,
@@ -98,7 +65,7 @@ static bool stream_is_sound(const struct table *table,
     if (!stream->open)
         return closed_and_empty(stream);
     return attachment_is_sound(table, stream) && binding_is_sound(stream)
-        && indications_are_sound(stream) && further_saps_are_sound(stream);
+        && indications_are_sound(stream);
 }
 
 static bool streams_are_sound(const struct table *table)

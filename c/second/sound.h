@@ -6,10 +6,7 @@
 
 #include "table.h"
 
-/*
- * For a table that was read from a tidy image: its states have rows, and no
- * stream has more than four further SAPs.
- */
+/* For a table that was read from a tidy image: its states have rows. */
 bool second_is_sound(const struct table *table);
 
 #endif

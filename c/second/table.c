@@ -2,7 +2,6 @@
 #include "table.h"
 
 #include <stddef.h>
-#include <string.h>
 
 struct table second_fresh_table(void)
 {
@@ -118,46 +117,4 @@ void second_lose_indication(struct stream *listener, struct correlation number)
     listener->indication[place] = (struct correlation){ 0 };
     if (listener->indications == 0)
         listener->state = IDLE;
-}
-
-/* The place of a further SAP, or the count of them if it is not there. */
-static unsigned further_place_of(const struct stream *stream, uint16_t sap)
-{
-    unsigned place = 0;
-
-    while (place < stream->further_saps && stream->further_sap[place] != sap)
-        place++;
-    return place;
-}
-
-bool second_has_further_sap(const struct stream *stream, uint16_t sap)
-{
-    return further_place_of(stream, sap) < stream->further_saps;
-}
-
-bool second_is_bound_to(const struct stream *stream, uint16_t sap)
-{
-    return stream->sap == sap || second_has_further_sap(stream, sap);
-}
-
-void second_gain_further_sap(struct stream *stream, uint16_t sap)
-{
-    stream->further_sap[stream->further_saps] = sap;
-    stream->further_saps++;
-}
-
-void second_lose_further_sap(struct stream *stream, uint16_t sap)
-{
-    unsigned place = further_place_of(stream, sap);
-
-    stream->further_saps--;
-    for (; place < stream->further_saps; place++)
-        stream->further_sap[place] = stream->further_sap[place + 1];
-    stream->further_sap[place] = 0;
-}
-
-void second_lose_all_further_saps(struct stream *stream)
-{
-    stream->further_saps = 0;
-    memset(stream->further_sap, 0, sizeof stream->further_sap);
 }

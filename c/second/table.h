@@ -9,7 +9,6 @@ enum {
     STREAMS = 16,
     PPAS = 8,
     INDICATIONS = 8, /* the most open indications of a stream */
-    FURTHER_SAPS = 4, /* the most SAPs of a stream beside the first */
     MAC_SIZE = 6
 };
 
@@ -58,8 +57,6 @@ struct stream {
     uint8_t granted;       /* the count granted at the bind */
     uint8_t indications;   /* how many indications are open */
     struct correlation indication[INDICATIONS]; /* oldest first, then zeros */
-    uint8_t further_saps; /* how many there are beside the first */
-    uint16_t further_sap[FURTHER_SAPS]; /* in order of binding, then zeros */
 };
 
 struct table {
@@ -99,18 +96,5 @@ void second_gain_indication(struct stream *listener, struct correlation number);
 
 /* The listener loses an open indication, and goes to 6 at the last one. */
 void second_lose_indication(struct stream *listener, struct correlation number);
-
-bool second_has_further_sap(const struct stream *stream, uint16_t sap);
-
-/* By the first SAP of a bound stream or by a further one. */
-bool second_is_bound_to(const struct stream *stream, uint16_t sap);
-
-/* The stream has fewer than four. */
-void second_gain_further_sap(struct stream *stream, uint16_t sap);
-
-/* The stream has it. Those behind it move up. */
-void second_lose_further_sap(struct stream *stream, uint16_t sap);
-
-void second_lose_all_further_saps(struct stream *stream);
 
 #endif

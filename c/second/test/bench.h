@@ -36,9 +36,7 @@ enum {
     PPA_PLACES = 8,
     PPA_PLACE = 10,
     SLOTS = 88,
-    SLOT = 51,
-    FURTHER = 42, /* in a slot */
-    IMAGE = 904
+    SLOT = 42
 };
 
 #define COUNT(array) (sizeof (array) / sizeof (array)[0])
@@ -130,14 +128,6 @@ void message(uint8_t *record, uint8_t s, uint8_t length, const char *block);
 #define USER_RESET_SLOT "0c 01 0080 00000001 02"
 #define PEER_RESET_SLOT "0d 01 0080 00000001 02"
 
-/* A slot's eight places for open numbers, with none open. */
-#define NO_NUMBERS                                                \
-    "00000000 00000000 00000000 00000000 00000000 00000000 00000000 00000000 "
-
-/* The same two boards with further SAPs: their count and each of them. */
-#define BOARD_WITH(further) BOARD_SLOT " 00 00 " NO_NUMBERS further
-#define TYPE_WITH(further) TYPE_SLOT " 00 00 " NO_NUMBERS further
-
 #define BADADDR 0x01
 #define ACCESS 0x02
 #define OUTSTATE 0x03
@@ -149,7 +139,6 @@ void message(uint8_t *record, uint8_t s, uint8_t length, const char *block);
 #define BADTOKEN 0x0c
 #define BOUND 0x0d
 #define NOTSUPPORTED 0x12
-#define TOOMANY 0x13
 #define NOAUTO 0x16
 #define PENDING 0x1b
 

@@ -20,6 +20,5 @@ void run_datagrams(struct bench *b);
 void run_frames(struct bench *b);
 void run_boards(struct bench *b);
 void run_saps(struct bench *b);
-void run_further(struct bench *b);
 
 #endif

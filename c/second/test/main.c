@@ -24,7 +24,6 @@ int main(void)
     run_frames(&bench);
     run_boards(&bench);
     run_saps(&bench);
-    run_further(&bench);
     printf("%u passed, %u failed\n", bench.passed, bench.failed);
     return bench.failed == 0 ? 0 : 1;
 }

@@ -29,10 +29,8 @@ static void test_length_of_image(struct bench *b)
 
     b->topic = "refusal 16, length";
     memcpy(before, image, sizeof image);
-    check(b, second_call(image, IMAGE - 1, record, 1, room, 128) == 16u << 16,
-          "903");
-    check(b, second_call(image, IMAGE + 1, record, 1, room, 128) == 16u << 16,
-          "905");
+    check(b, second_call(image, 759, record, 1, room, 128) == 16u << 16, "759");
+    check(b, second_call(image, 761, record, 1, room, 128) == 16u << 16, "761");
     check(b, second_call(image, 0, record, 1, room, 128) == 16u << 16, "0");
     check(b, second_call(NULL, 0, record, 1, room, 128) == 16u << 16, "none");
     check(b, second_call(NULL, 0, NULL, 0, NULL, 0) == 16u << 16, "nothing");
@@ -242,107 +240,6 @@ static void test_sound_tables(struct bench *b)
     lent_soundly(b, "PPAs and no opening");
 }
 
-/* At most four, each in the first one's form, all different, none the first. */
-static void test_further_saps(struct bench *b)
-{
-    static const struct {
-        const char *what;
-        const char *slot;
-    } unsound[] = {
-        { "5 further SAPs", BOARD_WITH("05 0082 0084 0086 0088") },
-        { "255 further SAPs", BOARD_WITH("ff 0082 0084 0086 0088") },
-        { "further SAP behind count 0", BOARD_WITH("00 0082") },
-        { "further SAP behind count 1", BOARD_WITH("01 0082 0084") },
-        { "further SAP behind count 3", BOARD_WITH("03 0082 0084 0086 0088") },
-        { "last byte behind the count", BOARD_WITH("01 0082 0000 0000 0001") },
-        { "odd", BOARD_WITH("01 0081") },
-        { "odd, the last of four", BOARD_WITH("04 0082 0084 0086 0089") },
-        { "reserved", BOARD_WITH("01 0006") },
-        { "reserved, the second", BOARD_WITH("03 0082 0006 0086") },
-        { "0x100", BOARD_WITH("01 0100") },
-        { "0x5fe", TYPE_WITH("01 05fe") },
-        { "0x5ff, the last of four", TYPE_WITH("04 0806 0808 080a 05ff") },
-        { "a type beside a SAP", BOARD_WITH("01 0800") },
-        { "a type beside a SAP, the second", BOARD_WITH("02 0082 ffff") },
-        { "a SAP beside a type", TYPE_WITH("01 0080") },
-        { "SAP 0 beside a type", TYPE_WITH("01 0000") },
-        { "SAP 0 beside a type, the second", TYPE_WITH("02 0806 0000") },
-        { "the first SAP", BOARD_WITH("01 0080") },
-        { "the first SAP, the last of four",
-          BOARD_WITH("04 0082 0084 0086 0080") },
-        { "the first type, the second", TYPE_WITH("02 0806 0800") },
-        { "first and second equal", BOARD_WITH("02 0082 0082") },
-        { "first and third equal", BOARD_WITH("03 0082 0084 0082") },
-        { "first and fourth equal", BOARD_WITH("04 0082 0084 0086 0082") },
-        { "second and third equal", BOARD_WITH("03 0082 0084 0084") },
-        { "second and fourth equal", TYPE_WITH("04 0806 0808 080a 0808") },
-        { "third and fourth equal", TYPE_WITH("04 0806 0808 080a 080a") },
-        { "SAP 0 twice", BOARD_WITH("02 0000 0000") },
-        { "mode 1, none granted",
-          "06 01 0082 00000001 00 00 " NO_NUMBERS "01 008a" },
-        { "mode 1, listening",
-          "06 01 0082 00000001 02 00 " NO_NUMBERS "01 008a" },
-    };
-    static const char *const sound[] = {
-        BOARD_WITH("00"), BOARD_WITH("01 0082"), BOARD_WITH("02 0084 0082"),
-        BOARD_WITH("03 00fe 0002 00aa"), BOARD_WITH("04 0088 0086 0084 0082"),
-        BOARD_WITH("01 0000"), BOARD_WITH("02 0082 0000"),
-        BOARD_WITH("04 0082 0084 0086 0000"),
-        "06 02 0000 00000002 00 00 " NO_NUMBERS "01 0080",
-        TYPE_WITH("01 0806"), TYPE_WITH("04 ffff 0600 0801 8137"),
-        "06 02 ffff 00000001 00 00 " NO_NUMBERS "02 0600 0800",
-    };
-
-    b->topic = "refusal 16, further SAPs";
-    for (size_t i = 0; i < COUNT(unsound); i++) {
-        start_full(b);
-        stand(b, 7, unsound[i].slot);
-        not_lent_soundly(b, unsound[i].what);
-    }
-    /* Beside each other too, and beside what stream 0 listens for. */
-    start_full(b);
-    for (size_t i = 0; i < COUNT(sound); i++) {
-        stand(b, 7, sound[i]);
-        lent_soundly(b, sound[i]);
-        stand(b, 15, sound[i]);
-        lent_soundly(b, sound[i]);
-    }
-}
-
-/* Only state 6 in mode 2 has further SAPs, and a closed stream nothing. */
-static void test_states_with_further_saps(struct bench *b)
-{
-    b->topic = "refusal 16, states with further SAPs";
-    for (unsigned state = 0; state < 256; state++) {
-        start(b);
-        stand(b, 7, BOARD_WITH("01 0082"));
-        table_of(b)[IN_SLOT(7, 0)] = (uint8_t)state;
-        if (state == 6)
-            lent_soundly(b, "state 6");
-        else
-            not_lent_soundly(b, "another state");
-    }
-    for (size_t i = 0; i < STANDINGS; i++) {
-        start(b);
-        stand(b, 7, standings[i]);
-        lent_soundly(b, standings[i]);
-        hex("01 0082", table_of(b) + IN_SLOT(7, FURTHER));
-        not_lent_soundly(b, standings[i]);
-        hex("01 0000", table_of(b) + IN_SLOT(7, FURTHER));
-        not_lent_soundly(b, standings[i]);
-    }
-    for (unsigned s = 0; s < 16; s++) {
-        for (unsigned offset = FURTHER; offset < SLOT; offset++) {
-            start(b);
-            table_of(b)[IN_SLOT(s, offset)] = 1;
-            not_lent_soundly(b, "a byte of a closed stream");
-        }
-        start(b);
-        hex("01 0082", table_of(b) + IN_SLOT(s, FURTHER));
-        not_lent_soundly(b, "a closed stream with a further SAP");
-    }
-}
-
 void run_soundness(struct bench *b)
 {
     test_length_of_image(b);
@@ -351,6 +248,4 @@ void run_soundness(struct bench *b)
     test_states_of_slots(b);
     test_slots_above_6(b);
     test_sound_tables(b);
-    test_further_saps(b);
-    test_states_with_further_saps(b);
 }

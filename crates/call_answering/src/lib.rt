@@ -13,8 +13,8 @@ ghost use Rattle.table_image.specs.Lent.{LentAt, Loaded};
 
 use call_outcomes::Decided;
 use paper::{
-    Asked, Carrier, ConnectResponse, DisconnectRequest, Found, Request, SapPlace, Service, Stream,
-    Token, Verdict,
+    Asked, Carrier, ConnectResponse, DisconnectRequest, Found, Request, Service, Stream, Token,
+    Verdict,
 };
 
 // ---- steps 3 to 7 of the order of errors, of stream i, which stands as s
@@ -76,27 +76,7 @@ fn judged_disconnect(img: &[u8], i: u8, s: Stream, d: DisconnectRequest) -> Judg
     alone(i, paper_rules::judge_disconnect(s, d, waits))
 }
 
-// SUBS_BIND_REQ: its SAP among the further ones, and how many these are.
-fn judged_subs_bind(img: &[u8], i: u8, s: Stream, p: SapPlace, class: u32) -> Judgement
-    requires { Loaded s i img.now }
-    ensures { RightlyJudged (table_of img.now) i (request.SubsBind p class) result }
-{
-    let at = i as usize;
-    let there = table_saps::is_further(img, at, p.sap);
-    let count = table_image::further_count_at(img, at);
-    alone(i, paper_rules::judge_subs_bind(s, p, class, there, count))
-}
-
-// SUBS_UNBIND_REQ: its SAP among the further ones.
-fn judged_subs_unbind(img: &[u8], i: u8, s: Stream, p: SapPlace) -> Judgement
-    requires { Loaded s i img.now }
-    ensures { RightlyJudged (table_of img.now) i (request.SubsUnbind p) result }
-{
-    let there = table_saps::is_further(img, i as usize, p.sap);
-    alone(i, paper_rules::judge_subs_unbind(s, p, there))
-}
-
-// Steps 3 to 7, and the tests of a datagram and of a further SAP, by the request.
+// Steps 3 to 7, and the tests of a datagram, by the request.
 fn judged_request(img: &[u8], i: u8, s: Stream, q: Request) -> Judgement
     requires { Loaded s i img.now }
     ensures { RightlyJudged (table_of img.now) i q result }
@@ -121,8 +101,6 @@ fn judged_request(img: &[u8], i: u8, s: Stream, q: Request) -> Judgement
         Request::Reset => alone(i, Verdict::Serves(Service::Reset)),
         Request::ResetRes => alone(i, Verdict::Serves(Service::ResetRes)),
         Request::Unitdata(u) => alone(i, paper_rules::judge_datagram(s, u)),
-        Request::SubsBind(p, class) => judged_subs_bind(img, i, s, p, class),
-        Request::SubsUnbind(p) => judged_subs_unbind(img, i, s, p),
     }
 }
 

@@ -2,7 +2,7 @@
 ghost use Rattle.std.specs.Prelude.{◌≡◌};
 ghost use Rattle.paper.specs.Effects.{changed, carried};
 ghost use Rattle.table_image.specs.Layout.{table_of, image_of};
-ghost use Rattle.table_image.specs.Lent.{Lent, LentAt, NumberPlace, FreePlace};
+ghost use Rattle.table_image.specs.Lent.{Lent, LentAt, NumberPlace};
 ghost use Rattle.call_changes.specs.Changing.{Changes};
 
 use paper::{Change, Correlation, STREAM_TOTAL, State, Stream};
@@ -29,36 +29,6 @@ fn lose_indication(img: &mut [u8], i: u8, s: Stream, n: Correlation, last: State
     table_numbers::remove_number(img, at, s, n);
 }
 
-// A stream takes one further SAP more,
-fn take_sap(img: &mut [u8], i: u8, s: Stream, sap: u16)
-    requires { FreePlace i img.old }
-    ensures { img.new ≡ image_of (changed (table_of img.old) i (Change.Adds s sap)) }
-{
-    let at = i as usize;
-    table_saps::add_sap(img, at, sap);
-    table_image::store_stream(img, at, s);
-}
-
-// loses one,
-fn lose_sap(img: &mut [u8], i: u8, s: Stream, sap: u16)
-    requires { LentAt i img.old }
-    ensures { img.new ≡ image_of (changed (table_of img.old) i (Change.Drops s sap)) }
-{
-    let at = i as usize;
-    table_saps::drop_sap(img, at, sap);
-    table_image::store_stream(img, at, s);
-}
-
-// or loses all.
-fn lose_saps(img: &mut [u8], i: u8, s: Stream)
-    requires { LentAt i img.old }
-    ensures { img.new ≡ image_of (changed (table_of img.old) i (Change.Unbinds s)) }
-{
-    let at = i as usize;
-    table_saps::drop_saps(img, at);
-    table_image::store_stream(img, at, s);
-}
-
 // What becomes of a stream.
 pub fn change_stream(img: &mut [u8], i: u8, change: Change)
     requires { Changes change i img.old }
@@ -69,9 +39,6 @@ pub fn change_stream(img: &mut [u8], i: u8, change: Change)
         Change::Becomes(s) => table_image::store_stream(img, i as usize, s),
         Change::Takes(s, n) => take_indication(img, i, s, n),
         Change::Loses(s, n, last) => lose_indication(img, i, s, n, last),
-        Change::Adds(s, sap) => take_sap(img, i, s, sap),
-        Change::Drops(s, sap) => lose_sap(img, i, s, sap),
-        Change::Unbinds(s) => lose_saps(img, i, s),
     }
 }
 

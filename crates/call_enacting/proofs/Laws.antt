@@ -42,7 +42,7 @@ bare_orders_lem i c own r line_order.Reset h = refl
 bare_orders_lem i c own r line_order.ResetAnswer h = refl
 bare_orders_lem i c own r (line_order.Unitdata at form) h = absurd (miss bare_orders 5 tt h)
 
--- the messages up that do not end in what is the stream's own, by their tags
+-- the messages up that do not end in the stream's own address, by their tags
 abbrev foreign_replies : List ℕ
 foreign_replies = 2 ∷ 3 ∷ 4 ∷ 5 ∷ 6 ∷ 7 ∷ 8 ∷ 9 ∷ 10 ∷ []
 
@@ -59,11 +59,10 @@ not_own mac (reply.DisconnectInd reason n) h = refl
 not_own mac (reply.ResetInd reason) h = refl
 not_own mac reply.ResetCon h = refl
 not_own mac (reply.UderrorInd error) h = refl
-not_own mac (reply.SubsBindAck sap) h = absurd (miss foreign_replies 11 tt h)
 
 -- those that do not end in addresses of the event's record
 abbrev own_replies : List ℕ
-own_replies = 0 ∷ 1 ∷ 2 ∷ 3 ∷ 6 ∷ 7 ∷ 8 ∷ 9 ∷ 10 ∷ 11 ∷ []
+own_replies = 0 ∷ 1 ∷ 2 ∷ 3 ∷ 6 ∷ 7 ∷ 8 ∷ 9 ∷ 10 ∷ []
 
 pub not_event : (own m : List ℕ) (r : Reply) → OneOf own_replies (tag_of the-reply.the_type r) → own ≡ behind_by own m r
 unfolding behind_by
@@ -78,7 +77,6 @@ not_event own m (reply.DisconnectInd reason n) h = refl
 not_event own m (reply.ResetInd reason) h = refl
 not_event own m reply.ResetCon h = refl
 not_event own m (reply.UderrorInd error) h = refl
-not_event own m (reply.SubsBindAck sap) h = refl
 
 -- by where it comes from, it is what stands behind the fields. CONNECT_IND has the two addresses of the event, one behind
 -- the other.
@@ -95,4 +93,3 @@ behind_reply_lem mac m (reply.DisconnectInd reason n) = refl
 behind_reply_lem mac m (reply.ResetInd reason) = refl
 behind_reply_lem mac m reply.ResetCon = refl
 behind_reply_lem mac m (reply.UderrorInd error) = refl
-behind_reply_lem mac m (reply.SubsBindAck sap) = refl

@@ -6,7 +6,7 @@ use Rattle.paper.specs.declared.Reply.{Reply}
 use Rattle.paper.specs.Base.{address_size}
 use Rattle.paper.specs.declared.Reply.TheVariants as reply
 
--- the stream's own address or a further SAP, where the message ends in it: what stands there with no event's record
+-- the stream's own address, where the message ends in it: what stands there with no event's record
 abbrev pub own_behind : List ℕ → Reply → List ℕ
 own_behind mac r = behind_reply mac [] r
 
@@ -23,4 +23,3 @@ behind_by own r (reply.DisconnectInd reason n) = own
 behind_by own r (reply.ResetInd reason) = own
 behind_by own r reply.ResetCon = own
 behind_by own r (reply.UderrorInd error) = own
-behind_by own r (reply.SubsBindAck sap) = own

@@ -99,9 +99,8 @@ fn mac_at(img: &[u8], i: u8) -> [u8; MAC_SIZE]
     table_lookup::mac_of(img, p)
 }
 
-// The stream's own, where the message up ends in it: its address behind the fields of INFO_ACK and BIND_ACK, a further SAP behind those
-// of SUBS_BIND_ACK.
-fn put_own(img: &[u8], own: &mut [u8], i: u8, reply: Reply) -> usize
+// The stream's own address, where the message up ends in it: behind the fields of INFO_ACK and BIND_ACK.
+fn put_own_address(img: &[u8], own: &mut [u8], i: u8, reply: Reply) -> usize
     requires { LentRoom most_tail i img.now own.old }
     ensures { WroteMost most_tail (own_behind (mac_at (table_of img.now) i) reply) 0 result own.old own.new }
 {
@@ -114,7 +113,6 @@ fn put_own(img: &[u8], own: &mut [u8], i: u8, reply: Reply) -> usize
             let mac = mac_at(img, i);
             wire_replies::put_address(own, mac, sap)
         }
-        Reply::SubsBindAck(sap) => wire_replies::put_sap(own, 0, sap),
         _ => 0,
     }
 }
@@ -137,7 +135,7 @@ fn put_reply(img: &[u8], room: &mut [u8], i: u8, r: &[u8], reply: Reply) -> usiz
     ensures { WroteMost message_size (bytes_of (up i reply (behind_reply (mac_at (table_of img.now) i) r.now reply))) 0 result room.old room.new }
 {
     let mut own = [0u8; MOST_TAIL];
-    let size = put_own(img, &mut own, i, reply);
+    let size = put_own_address(img, &mut own, i, reply);
     let tail = behind(&own[0..size], r, reply);
     wire_replies::put_up(room, i, reply, tail)
 }

@@ -1,7 +1,7 @@
 -- What the line brings is decided by the row by which it may come: by none it is refused, else it does what that row says.
 use Prim.Native.Nat.{ℕ, ◌<◌, ◌≤◌}
 use native.Mathlib.Omega.{arith}
-use mathlib.Core.Path.{◌≡◌, refl, sym, ap, subst, ◌∙◌}
+use mathlib.Core.Path.{◌≡◌, refl, sym, ap, ◌∙◌}
 use mathlib.Core.Bool.{Bool, true, false, false≢true}
 use mathlib.Core.List.{List, [], ◌∷◌}
 use lib.ListN.{length}
@@ -26,7 +26,7 @@ use Rattle.paper.specs.declared.Found.TheVariants.{At, Missing}
 use Rattle.paper.specs.declared.Event.{Event}
 use Rattle.paper.specs.declared.Event.TheVariants as event
 use Rattle.paper.specs.declared.Effect.{Effect}
-use Rattle.call_outcomes.specs.Places.{HasPlace}
+use Rattle.call_outcomes.specs.Takes.{takes}
 use Rattle.call_outcomes.specs.Deciding.{outcome_of}
 use Rattle.call_outcomes.specs.declared.Decided.TheVariants.{Does}
 use Rattle.call_events.specs.DueRow.{due_row}
@@ -72,18 +72,18 @@ due t i e x h = go (is_due (slot t i) e) h
     go false h = absurd (false≢true (ap is_found h))
 
 has-place : (t : Table) (i : ℕ) (x : StateRow) (s : Stream) (e : Event) → is_due (slot t i) e ≡ true → (stream t i).granted ≤ most_open
-    → HasPlace t i (event_effect x s e).change
+    → takes (event_effect x s e).change ≡ true → length (waiting t i) < most_open
 unfolding event_effect
-has-place t i x s (event.Arrives n) d g = omega (arith, ltb-true (length (waiting t i)) (stream t i).granted d)
-has-place t i x s event.Accepted d g = tt
-has-place t i x s (event.Gone reason) d g = tt
-has-place t i x s (event.Withdrawn n reason) d g = tt
-has-place t i x s (event.Resets reason) d g = tt
-has-place t i x s event.Confirmed d g = tt
+has-place t i x s (event.Arrives n) d g h = omega (arith, ltb-true (length (waiting t i)) (stream t i).granted d)
+has-place t i x s event.Accepted d g h = absurd (false≢true h)
+has-place t i x s (event.Gone reason) d g h = absurd (false≢true h)
+has-place t i x s (event.Withdrawn n reason) d g h = absurd (false≢true h)
+has-place t i x s (event.Resets reason) d g h = absurd (false≢true h)
+has-place t i x s event.Confirmed d g h = absurd (false≢true h)
 
 pub place : (t : Table) (i : ℕ) (e : Event) (f : Found) (x : StateRow) (s : Stream) (w : Effect) → f ≡ due_row t i e → f ≡ At x → w ≡ event_effect x s e
-    → (stream t i).granted ≤ most_open → HasPlace t i w.change
-place t i e f x s w d h z g = subst (λ (w : Effect). HasPlace t i w.change) (sym z) (has-place t i x s e (due t i e x (sym d ∙ h)) g)
+    → (stream t i).granted ≤ most_open → takes w.change ≡ true → length (waiting t i) < most_open
+place t i e f x s w d h z g k = has-place t i x s e (due t i e x (sym d ∙ h)) g (ap (λ (w : Effect). takes w.change) (sym z) ∙ k)
 
 -- ---- of the records that bring no event, those that are not the line's are ruled out, and the others cannot be read
 

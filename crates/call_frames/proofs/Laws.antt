@@ -3,18 +3,17 @@
 use Prim.Native.Nat.{ℕ, ◌+◌, ◌*◌, ◌≤◌}
 use native.Mathlib.Omega.{arith}
 use mathlib.Core.Path.{◌≡◌, sym, ap, ◌∙◌}
-use mathlib.Core.Bool.{Bool, true, false}
+use mathlib.Core.Bool.{true, false}
 use mathlib.Core.List.{List, [], ◌∷◌, ◌++◌}
 use lib.ListN.{length, take}
 use lib.Dec.{eqb}
 use Rattle.ledger.specs.Choice.{both, ◌⇒◌∣◌}
-use Rattle.ledger.specs.Tally.{has}
-use Rattle.ledger.proofs.Tallies.{both_swap}
+use Rattle.ledger.proofs.Tallies.{both_none}
 use Rattle.ledger.proofs.Lists.{joined_append}
 use Rattle.octets.specs.Blocks.{flat, block_size}
 use Rattle.octets.proofs.Blocks.{pad-length}
 use Rattle.octets.specs.Runs.{same_bytes}
-use Rattle.paper.specs.Base.{Slot, bound_to, Table, stream_total, mac_size, length_of, form_of, mac_of}
+use Rattle.paper.specs.Base.{Slot, Table, stream_total, mac_size, length_of, mac_of}
 use Rattle.paper.specs.RecordsIn.{size_of, frame_called_in, frame_calling_in, frame_data_in}
 use Rattle.paper.specs.RecordsOut.{unitdata, datum, bytes_of, all_bytes}
 use Rattle.paper.specs.Replies.{unitdata_fields}
@@ -25,19 +24,16 @@ use Rattle.paper.specs.declared.Kind.TheVariants as kind
 use Rattle.paper.proofs.RecordsOut.{two_records}
 use Rattle.paper.proofs.Frames.{indication-long}
 use Rattle.paper.proofs.Tails.{form_most}
-use Rattle.call_frames.specs.Showing.{suits, block_of}
+use Rattle.call_frames.specs.Showing.{block_of}
 
 -- ---- who is shown a frame: an open stream that it is for
 
--- the tests in the order in which they are asked
-pub in_order_lem : (f : Frame) (x : Slot) → is_shown state_rows f x ≡ both (has f.sap (bound_to x)) (both x.is_open (suits f x.stream))
-unfolding is_shown is_for suits
-in_order_lem f x =
-    let row : Bool = is_found (found state_rows x.stream frame_arrives) in
-    let ppa : Bool = eqb x.stream.ppa.0 f.ppa.0 in
-    let sap : Bool = has f.sap (bound_to x) in
-    let form : Bool = eqb (length_of (form_of x.stream.sap)) (length_of f.form) in
-    ap (both x.is_open) (ap (both row) (both_swap ppa sap form) ∙ both_swap row sap (both ppa form)) ∙ both_swap x.is_open sap (both row (both ppa form))
+-- one bound to another SAP is not
+pub other_sap : (f : Frame) (x : Slot) → eqb x.stream.sap f.sap ≡ false → false ≡ is_shown state_rows f x
+unfolding is_shown is_for
+other_sap f x e =
+    sym (rw e (ap (both x.is_open) (ap (both (is_found (found state_rows x.stream frame_arrives))) (both_none (eqb x.stream.ppa.0 f.ppa.0))
+    ∙ both_none (is_found (found state_rows x.stream frame_arrives))) ∙ both_none x.is_open))
 
 -- nobody where the called MAC is another; else those of all the streams
 pub not_called : (t : Table) (r : List ℕ) (f : Frame) → same_bytes (take mac_size (frame_called_in r f.form)) (mac_of t f.ppa) ≡ false → [] ≡ shown_to state_rows t r f

@@ -1,23 +1,17 @@
 -- What is written of a frame, and what is asked of what is lent with it.
-use Rattle.std.specs.Prelude.{ℕ, ◌*◌, ◌≤◌, ◌≡◌, Bool, List, [], ◌∷◌, ◌++◌, length, eqb}
-use Rattle.ledger.specs.Choice.{pick, both}
+use Rattle.std.specs.Prelude.{ℕ, ◌*◌, ◌≤◌, ◌≡◌, List, [], ◌∷◌, ◌++◌, length}
+use Rattle.ledger.specs.Choice.{pick}
 use Rattle.octets.specs.Blocks.{flat, pad}
-use Rattle.paper.specs.Base.{stream_total, length_of, form_of, Table, slot}
+use Rattle.paper.specs.Base.{stream_total, Table, slot}
 use Rattle.paper.specs.RecordsIn.{pair_size, size_of, frame_called_in, frame_calling_in}
 use Rattle.paper.specs.Datagrams.{is_shown}
 use Rattle.paper.specs.Replies.{unitdata_fields}
 use Rattle.paper.specs.Room.{frame_room_size}
-use Rattle.paper.specs.StateRows.{state_rows, frame_arrives, found, is_found}
-use Rattle.paper.specs.declared.Stream.{Stream}
+use Rattle.paper.specs.StateRows.{state_rows}
 use Rattle.paper.specs.declared.Form.{Form}
 use Rattle.paper.specs.declared.Frame.{Frame}
 use Rattle.paper.specs.declared.Kind.TheVariants as kind
 use Rattle.table_image.specs.Lent.{Lent, LentAt}
-
--- what is asked of a stream beside its SAPs (`is_for`): a state row for frames, that PPA, that form
-unfoldable pub suits : Frame → Stream → Bool
-suits f s =
-    both (is_found (found state_rows s frame_arrives)) (both (eqb s.ppa.0 f.ppa.0) (eqb (length_of (form_of s.sap)) (length_of f.form)))
 
 -- the stream, where the frame is shown to it
 abbrev pub if_shown : Table → Frame → ℕ → List ℕ

@@ -1,25 +1,24 @@
 // A frame: each stream that it is shown to gets one indication with its M, in stream order.
 ghost use Rattle.std.specs.Prelude.{◌≡◌, take};
-ghost use Rattle.ledger.specs.Tally.{has};
 ghost use Rattle.octets.specs.Runs.{same_bytes};
 ghost use Rattle.octets.specs.Writing.{WroteMost};
-ghost use Rattle.paper.specs.Base.{mac_size, stream_total, slot, bound_to, mac_of};
+ghost use Rattle.paper.specs.Base.{mac_size, stream_total, slot, mac_of};
 ghost use Rattle.paper.specs.RecordsIn.{pair_size, frame_called_in};
 ghost use Rattle.paper.specs.RecordsOut.{all_bytes};
-ghost use Rattle.paper.specs.Datagrams.{is_shown, shown_below, indications, frames};
+ghost use Rattle.paper.specs.Datagrams.{is_for, is_shown, shown_below, indications, frames};
 ghost use Rattle.paper.specs.StateRows.{state_rows};
 ghost use Rattle.table_image.specs.Layout.{table_of};
 ghost use Rattle.table_image.specs.Lent.{Lent, LentAt};
 ghost use Rattle.call_outcomes.specs.Leaving.{left, leaving};
-ghost use Rattle.call_frames.specs.Showing.{suits, if_shown, block_of, Framed, ShowsOne, Shows, most_shown};
+ghost use Rattle.call_frames.specs.Showing.{if_shown, block_of, Framed, ShowsOne, Shows, most_shown};
 
 use call_outcomes::{NOBODY_THERE, OVER_LONG};
 use octets::BLOCK_SIZE;
 use paper::{BODY_SIZE, Form, Frame, MAC_SIZE, MOST_DATA, STREAM_TOTAL, Stream};
 
-// A stream with a row for frames, of its PPA, bound in its form.
-fn suits(s: Stream, f: Frame) -> bool
-    ensures { result ≡ suits f s }
+// A stream with a row for frames, of its PPA, bound to its SAP in its form.
+fn is_for(s: Stream, f: Frame) -> bool
+    ensures { result ≡ is_for state_rows f s }
 {
     let form = f.form;
     if !paper_rows::takes_frames(s) {
@@ -28,29 +27,24 @@ fn suits(s: Stream, f: Frame) -> bool
     if s.ppa.0 != f.ppa.0 {
         return false;
     }
+    if s.sap != f.sap {
+        return false;
+    }
     paper::length_of(paper::form_of(s.sap)) == paper::length_of(form)
 }
 
-// By the stream's first SAP or by a further one.
-fn reaches(img: &[u8], i: usize, f: Frame) -> bool
-    requires { LentAt i img.now }
-    ensures { result ≡ has f.sap (bound_to (slot (table_of img.now) i)) }
-{
-    table_saps::is_bound_to(img, i, f.sap)
-}
-
-// The stream is open, and the frame is for it. Its SAPs are asked first: they are others for most.
+// The stream is open, and the frame is for it. The SAP is asked first: it is another for most.
 fn is_shown(img: &[u8], i: usize, f: Frame) -> bool
     requires { LentAt i img.now }
     ensures { result ≡ is_shown state_rows f (slot (table_of img.now) i) }
 {
-    if !reaches(img, i, f) {
+    if table_image::sap_at(img, i) != f.sap {
         return false;
     }
     if !table_image::is_open(img, i) {
         return false;
     }
-    suits(table_image::load_stream(img, i), f)
+    is_for(table_image::load_stream(img, i), f)
 }
 
 // The block of an indication, which is the same for all streams.

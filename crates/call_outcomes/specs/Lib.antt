@@ -1,5 +1,5 @@
 pub mod Leaving
 pub mod Fresh
-pub mod Places
+pub mod Takes
 pub mod Deciding
 pub mod Rooms

@@ -153,7 +153,6 @@ reply_said q i (reply.DisconnectInd reason n) tail rest = ap (λ (m : ℕ). end_
 reply_said q i (reply.ResetInd reason) tail rest = refl
 reply_said q i reply.ResetCon tail rest = refl
 reply_said q i (reply.UderrorInd error) tail rest = refl
-reply_said q i (reply.SubsBindAck sap) tail rest = refl
 
 record_said : (q : Input) (r : Record) (rest : List ℕ) → line_at q (bytes_of r ++ rest) ≡ line_of q r
 unfolding line_at up_line ◌⇒◌∣◌

@@ -36,7 +36,6 @@ reply_line i (reply.DisconnectInd reason n) = pick (eqb n.0 0) Nothing (Went i n
 reply_line i (reply.ResetInd reason) = Nothing
 reply_line i reply.ResetCon = Nothing
 reply_line i (reply.UderrorInd error) = Nothing
-reply_line i (reply.SubsBindAck sap) = Nothing
 
 -- what a message that breaks a rule is told says nothing
 pub complaint_said : (i code : ℕ) (x : Complaint) → reply_line i (reply_by code x) ≡ Nothing

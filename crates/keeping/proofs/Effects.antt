@@ -15,7 +15,7 @@ use Rattle.fates_book.specs.declared.Line.{Line}
 use Rattle.fates_book.specs.declared.Line.TheVariants.{Given}
 use Rattle.fates_book.proofs.Shades.{silent}
 use Rattle.fates_book.proofs.Said.{line_of, said}
-use Rattle.paper.specs.Base.{number_of, number, is_in, is_among, bound_states, connection_states, attached_in, settled, Table, slot, stream, waiting, further, ppa_numbers, knows, mac_at, with_stream, with_further}
+use Rattle.paper.specs.Base.{number_of, number, is_in, bound_states, connection_states, attached_in, settled, Table, slot, stream, waiting, ppa_numbers, knows, mac_at}
 use Rattle.paper.specs.Saps.{grant_of}
 use Rattle.paper.specs.Refusals.{Outcome}
 use Rattle.paper.specs.Effects.{changed, carried, enacted, told, next, onward, unchanged, acting}
@@ -32,13 +32,13 @@ use Rattle.paper.specs.declared.Effect.{Effect}
 use Rattle.paper.specs.declared.Input.{Input}
 use Rattle.paper.proofs.Fair.{MayBind, bind_allowed}
 use Rattle.paper.proofs.Walk.{done}
-use Rattle.keeping.specs.Soundness.{Listed, Sound}
+use Rattle.keeping.specs.Soundness.{Sound}
 use Rattle.keeping.specs.RowsFit.{to_state, may_lead, may_attach, may_bind}
-use Rattle.keeping.proofs.Changes.{not_at, not-nine, Fits, none_listed, unlisted, ok-attached, ok-bound}
-use Rattle.keeping.proofs.Leaves.{stream-sound, deaf, settle_sound, same-stream, listing-sound}
-use Rattle.keeping.proofs.Traces.{Shows, SameGrant, shows_still, shows_stream, shows_further, shows_binds}
+use Rattle.keeping.proofs.Changes.{not-nine, Fits, ok-attached, ok-bound}
+use Rattle.keeping.proofs.Leaves.{stream-sound, deaf, settle_sound}
+use Rattle.keeping.proofs.Traces.{Shows, SameGrant, shows_still, shows_stream, shows_binds}
 use Rattle.keeping.proofs.Lines.{order_lines, up_lines, effect_lines, told-lines, quiet_told}
-use Rattle.keeping.proofs.Rows.{Moves, Leads, leads}
+use Rattle.keeping.proofs.Rows.{Moves, leads_moves}
 use Rattle.keeping.proofs.Binds.{bound_by, bind_alone}
 
 -- ---- what is shown of an outcome: its table is sound, and shows what its lines say
@@ -76,23 +76,11 @@ module _ (t : Table) (i : ℕ) (q : Input) (c : ℕ) (r : List ℕ) where
     pub onward_good : may_lead (number (stream t i)) (stream t i).mode (to_state x) ≡ true → Quiet (makes (onward x (stream t i))) → Good t q (done t i c r (makes (onward x (stream t i))))
     unfolding enacted carried changed
     onward_good h z =
-        let w : Leads (stream t i) (next x) = leads (stream t i) (next x) h in
-        let v : Moves (stream t i) (next x) = w.moves in
-        let l : Listed (stream t i) (further t i) = (k.each i).listed in
+        let v : Moves (stream t i) (next x) = leads_moves (stream t i) (next x) h in
         record {
-          kept = settle_sound t k i (next x) u v.quiet v.calm v.fits (λ e. w.stays (l.idle e) (l.connectionless e));
+          kept = settle_sound t k i (next x) u v.quiet v.calm v.fits;
           seen = shows_stream t t _ i (settled (next x) (stream t i)) (quietly (makes (onward x (stream t i))) z) (same_grant (stream t i) (next x) v.fits);
         }
-
-    -- the same with other further SAPs: none, one more, one less
-    pub listing_good : (d : Change) (l : List ℕ) → changed t i d ≡ with_stream (with_further t i l) i (settled (next x) (stream t i)) → Moves (stream t i) (next x) → Listed (stream t i) l
-        → (ltb 0 (length l) ≡ true → eqb (to_state x) 6 ≡ true) → Quiet (makes d) → Good t q (done t i c r (makes d))
-    unfolding enacted carried
-    listing_good d l e v y stays z = record {
-      kept = rw e (listing-sound t k i u l (next x) y v.quiet v.calm v.fits stays);
-      seen = rw e (shows_stream t (with_further t i l) _ i (settled (next x) (stream t i)) (shows_further t t _ i l (quietly (makes d) z))
-          (subst (λ (s : Stream). SameGrant s (settled (next x) (stream t i))) (sym (same-stream t k i u l i)) (same_grant (stream t i) (next x) v.fits)));
-    }
 
     -- INFO_REQ, TOKEN_REQ, UNITDATA_REQ: nothing changes where the row leads to its own state
     pub unchanged_good : either (eqb x.to (number (stream t i))) (may_lead (number (stream t i)) (stream t i).mode (to_state x)) ≡ true → x.from ≡ number (stream t i)
@@ -106,12 +94,9 @@ module _ (t : Table) (i : ℕ) (q : Input) (c : ℕ) (r : List ℕ) where
         second true b h e = absurd (false≢true (sym e))
         second false b h e = h
 
-    -- where the row is from a state without a binding, no number is open, and there is no further SAP
-    nobody : not (is_among bound_states (stream t i)) ≡ true → ltb 0 (length (waiting t i)) ≡ false
-    nobody h = sym (k.each i).nine ∙ not-nine (λ (m : ℕ). has m bound_states) (number (stream t i)) refl (not-true _ h)
-
-    nothing-listed : not (is_among bound_states (stream t i)) ≡ true → (s : Stream) → Listed s (further t i)
-    nothing-listed h s = none_listed s (further t i) (unlisted (ppa_numbers t) (slot t i) (k.each i) (not_at 6 (λ (m : ℕ). has m bound_states) (number (stream t i)) refl (not-true _ h)))
+    -- no number is open where the row is not from 9
+    nobody : not (is_in 9 (stream t i)) ≡ true → ltb 0 (length (waiting t i)) ≡ false
+    nobody h = sym (k.each i).nine ∙ not-true _ h
 
     -- ATTACH: the PPA is the table's
     pub attach_good : (p : PpaNumber) → may_attach (number (stream t i)) (to_state x) ≡ true → knows t p ≡ true
@@ -119,11 +104,11 @@ module _ (t : Table) (i : ℕ) (q : Input) (c : ℕ) (r : List ℕ) where
     unfolding enacted carried changed knows
     attach_good p h y z =
         let s : Stream = attached_in (next x) p in
-        let d : (not (is_among bound_states (stream t i)) ≡ true) × (both (not (eqb (to_state x) 0)) (not (has (to_state x) bound_states)) ≡ true) = both_of _ _ h in
+        let d : (not (is_in 9 (stream t i)) ≡ true) × (both (not (eqb (to_state x) 0)) (not (has (to_state x) bound_states)) ≡ true) = both_of _ _ h in
         let e : (not (eqb (to_state x) 0) ≡ true) × (not (has (to_state x) bound_states) ≡ true) = both_of _ _ d.1 in
         let b : has (to_state x) bound_states ≡ false = not-true _ e.1 in
         record {
-          kept = stream-sound t k i u s (ok-attached (ppa_numbers t) (next x) p (waiting t i) (further t i) (not-true _ e.0) b y (nobody d.0) (nothing-listed d.0 s)) (deaf t k i s refl);
+          kept = stream-sound t k i u s (ok-attached (ppa_numbers t) (next x) p (waiting t i) (not-true _ e.0) b y (nobody d.0)) (deaf t k i s refl);
           seen = shows_stream t t _ i s (quietly (makes (Becomes s)) z) (λ g. absurd (false≢true (sym b ∙ g)));
         }
 
@@ -134,15 +119,15 @@ module _ (t : Table) (i : ℕ) (q : Input) (c : ℕ) (r : List ℕ) where
     unfolding enacted carried changed
     bind_good b h y l =
         let s : Stream = bound_by t i b (next x) in
-        let d : (both (not (is_in 0 (stream t i))) (not (is_among bound_states (stream t i))) ≡ true) × (both (has (to_state x) bound_states) (not (has (to_state x) connection_states)) ≡ true) = both_of _ _ h in
-        let e : (not (is_in 0 (stream t i)) ≡ true) × (not (is_among bound_states (stream t i)) ≡ true) = both_of _ _ d.0 in
+        let d : (both (not (is_in 0 (stream t i))) (not (is_in 9 (stream t i))) ≡ true) × (both (has (to_state x) bound_states) (not (has (to_state x) connection_states)) ≡ true) = both_of _ _ h in
+        let e : (not (is_in 0 (stream t i)) ≡ true) × (not (is_in 9 (stream t i)) ≡ true) = both_of _ _ d.0 in
         let g : (has (to_state x) bound_states ≡ true) × (not (has (to_state x) connection_states) ≡ true) = both_of _ _ d.1 in
         let j : has (to_state x) connection_states ≡ false = not-true _ g.1 in
         let n : ltb 0 (length (waiting t i)) ≡ false = nobody e.1 in
         record {
           kept = stream-sound t k i u s
-              (ok-bound (ppa_numbers t) s (waiting t i) (further t i) g.0 ((k.each i).attached (not-true _ e.0)) (bind_allowed y (next x) (stream t i).ppa) (λ w. absurd (false≢true (sym j ∙ w)))
-              (not-nine (λ (m : ℕ). has m connection_states) (to_state x) refl j ∙ sym n) (omega (arith, ltb-false 0 (length (waiting t i)) n)) (nothing-listed e.1 s))
+              (ok-bound (ppa_numbers t) s (waiting t i) g.0 ((k.each i).attached (not-true _ e.0)) (bind_allowed y (next x) (stream t i).ppa) (λ w. absurd (false≢true (sym j ∙ w)))
+              (not-nine (λ (m : ℕ). has m connection_states) (to_state x) refl j ∙ sym n) (omega (arith, ltb-false 0 (length (waiting t i)) n)))
               (λ p sap. omega (arith, bind_alone t k i b (next x) y p sap));
           seen = shows_lines (makes (Becomes s)) _ _ l (shows_binds t i u s);
         }

@@ -4,7 +4,7 @@ use Prim.Native.Nat.{ℕ, zero, suc, ◌+◌, ◌*◌, ◌-◌, ◌^◌, ◌≤�
 use mathlib.Core.Path.{◌≡◌, refl, sym, ap, ◌∙◌}
 use mathlib.Core.Bool.{true}
 use mathlib.Core.List.{List, [], ◌∷◌, ◌++◌, map, append_assoc, append-nil}
-use lib.ListN.{length, get_or, take, drop, replicate, length-append}
+use lib.ListN.{length, get_or, take, drop, replicate}
 use lib.Seq.{drop_at}
 use lib.Dec.{leb}
 use native.Mathlib.Omega.{arith}
@@ -12,27 +12,26 @@ use borrow.Author.Tests.{eq-eqb, ne_eqb, le-leb}
 use Rattle.ledger.specs.Tally.{occ, all_of}
 use Rattle.ledger.proofs.Tallies.{both_of, to_both, at_all, chosen, one_most, sum_none}
 use Rattle.ledger.specs.Lists.{listed, joined}
-use Rattle.ledger.proofs.Lists.{each-listed, tail_at}
-use Rattle.octets.specs.Numbers.{be16, be32_at}
-use Rattle.octets.specs.Runs.{Bytes, part, all_zero}
+use Rattle.ledger.proofs.Lists.{each-listed}
+use Rattle.octets.specs.Numbers.{be32_at}
+use Rattle.octets.specs.Runs.{Bytes, all_zero}
 use Rattle.octets.specs.Blocks.{flat}
 use Rattle.octets.proofs.Runs.{part_bytes, zero-bytes, zeros_pass}
 use Rattle.octets.proofs.Numbers.{be32_at-small}
 use Rattle.octets.proofs.Blocks.{flat-length}
-use Rattle.octets.proofs.Pieces.{joined_length}
-use Rattle.paper.specs.Base.{Slot, closed, Table, slot, ppa_numbers, no_ppa, fresh, stream_total, mac_size, most_further, stream}
+use Rattle.paper.specs.Base.{Slot, closed, Table, slot, ppa_numbers, no_ppa, fresh, stream_total, mac_size, stream}
 use Rattle.paper.specs.Correlations.{occurrences}
 use Rattle.paper.specs.Sound.{sound}
 use Rattle.paper.specs.Step.{step}
 use Rattle.paper.specs.declared.Ppa.{Ppa}
 use Rattle.paper.proofs.StateNumbers.{in_every}
 use Rattle.paper.specs.Saps.{most_open}
-use Rattle.table_image.specs.Layout.{ppa_base, slot_base, ppa_from, waiting_from, slot_at, ppa_at, table_of, ppa_bytes, stream_bytes, waiting_bytes, further_bytes}
+use Rattle.table_image.specs.Layout.{ppa_base, slot_base, ppa_from, waiting_from, slot_at, ppa_at, table_of, ppa_bytes, stream_bytes, waiting_bytes}
 use Rattle.table_image.specs.Layout.{slot_bytes, header_bytes, image_of, is_state, tidy_slot, slot_parts, tidy_ppas, tidy, sound_image}
 use Rattle.table_image.specs.Layout.{ppa_count_offset, places_offset, place_size, places_size, count_offset, numbers_offset, numbers_size, slot_size}
-use Rattle.table_image.specs.Layout.{further_count_offset, further_offset, further_size, further_base, number_base, ppa_part, slot_part}
+use Rattle.table_image.specs.Layout.{number_base, ppa_part, slot_part}
 use Rattle.table_image.specs.Shape.{Shaped}
-use Rattle.table_image.proofs.Shapes.{numbers-length, ppas-length, image-length}
+use Rattle.table_image.proofs.Shapes.{ppas-length, image-length}
 use Rattle.table_image.proofs.TableBack.{slot-part, table_back}
 use Rattle.table_image.proofs.TidyImage.{tidy_parts, shaped-table}
 use Rattle.call_outcomes.specs.Leaving.{Left, leaving, call_of}
@@ -51,40 +50,15 @@ drop_past (x ∷ a) b n (suc m) e = let z : n + suc m ≡ suc (n + m) = omega ar
 
 -- ---- the image of a sound table is tidy
 
-numbers-tidy : (x : Slot) → length x.waiting ≤ most_open → all_zero (part (slot_bytes x) (number_base (length x.waiting)) (numbers_size - length x.waiting * 4)) ≡ true
-unfolding stream_bytes waiting_bytes
-numbers-tidy x h =
+slot-tidy : (x : Slot) → length x.waiting ≤ most_open → tidy_slot (slot_bytes x) ≡ true
+unfolding tidy_slot is_state stream_bytes waiting_bytes
+slot-tidy x h =
     let w : List ℕ = x.waiting in
     let z : List ℕ = replicate (numbers_size - length (flat w)) 0 in
-    let f : List ℕ = further_bytes x.further in
-    ap (λ (l : List ℕ). all_zero (take (numbers_size - length w * 4) l))
-    (drop_past (take numbers_offset (slot_bytes x)) ((flat w ++ z) ++ f) (length w * 4) numbers_offset refl
-    ∙ ap (drop (length w * 4)) (append_assoc (flat w) z f)
-    ∙ drop_at (flat w) (z ++ f) (length w * 4) (flat-length w))
-    ∙ zeros_pass (numbers_size - length w * 4) (numbers_size - length (flat w)) f (omega (arith, flat-length w))
-
-further-tidy : (a f : List ℕ) → length a ≡ further_count_offset → length f ≤ most_further
-    → (get_or (a ++ further_bytes f) further_count_offset 0 ≡ length f) × (all_zero (part (a ++ further_bytes f) (further_base (length f)) (further_size - length f * 2)) ≡ true)
-unfolding further_bytes
-further-tidy a f e h =
-    let saps : List ℕ = joined be16 f in
-    let z : List ℕ = replicate (further_size - length saps) 0 in
-    let long : length saps ≡ length f * 2 = joined_length be16 0 2 f (λ k. refl) in
-    let first : List ℕ = a ++ (length f ∷ []) in (
-      tail_at a (further_bytes f) further_count_offset 0 (omega arith),
-      ap (λ (l : List ℕ). all_zero (take (further_size - length f * 2) l))
-          (ap (drop (further_base (length f))) (sym (append_assoc a (length f ∷ []) (saps ++ z)))
-          ∙ drop_past first (saps ++ z) (length f * 2) further_offset (omega (arith, length-append a (length f ∷ [])))
-          ∙ drop_at saps z (length f * 2) long ∙ sym (append-nil z))
-          ∙ zeros_pass (further_size - length f * 2) (further_size - length saps) [] (omega arith),
-    )
-
-slot-tidy : (x : Slot) → length x.waiting ≤ most_open → length x.further ≤ most_further → tidy_slot (slot_bytes x) ≡ true
-unfolding tidy_slot is_state stream_bytes waiting_bytes
-slot-tidy x h g =
-    let y = further-tidy (stream_bytes x.stream ++ waiting_bytes x.waiting) x.further (numbers-length x.stream x.waiting h) g in
-    to_both _ _ (in_every x.stream.state) (to_both _ _ (to_both _ _ (le-leb _ _ h) (numbers-tidy x h))
-    (rw y.0 (to_both _ _ (le-leb _ _ g) y.1)))
+    to_both _ _ (in_every x.stream.state) (to_both _ _ (le-leb _ _ h)
+    (ap (λ (l : List ℕ). all_zero (take (numbers_size - length w * 4) l))
+    (drop_past (take numbers_offset (slot_bytes x)) (flat w ++ z) (length w * 4) numbers_offset refl ∙ drop_at (flat w) z (length w * 4) (flat-length w) ∙ sym (append-nil z))
+    ∙ zeros_pass (numbers_size - length w * 4) (numbers_size - length (flat w)) [] (omega (arith, flat-length w))))
 
 module _ (t : Table) (k : Sound t) where
   memory_tidy : leb (get_or (image_of t) 2 0) 1 ≡ true
@@ -107,7 +81,7 @@ module _ (t : Table) (k : Sound t) where
   slots-tidy : all_of tidy_slot (slot_parts (image_of t)) ≡ true
   slots-tidy = at_all tidy_slot (slot_bytes closed) (slot_parts (image_of t))
       (each-listed (λ (c : List ℕ). tidy_slot c ≡ true) (slot_part (image_of t)) 0 stream_total (slot_bytes closed)
-      (λ i h. ap tidy_slot (slot-part t (shaped t k) i h) ∙ slot-tidy (slot t i) ((shaped t k).eight i) ((shaped t k).four i)) (slot-tidy closed (omega arith) (omega arith)))
+      (λ i h. ap tidy_slot (slot-part t (shaped t k) i h) ∙ slot-tidy (slot t i) ((shaped t k).eight i)) (slot-tidy closed (omega arith)))
 
   pub image-tidy : tidy (image_of t) ≡ true
   unfolding tidy

@@ -2,20 +2,19 @@
 use Prim.Native.Nat.{ℕ, zero, suc, ◌+◌, ◌<◌, ◌%◌, ◌^◌}
 use native.Mathlib.Omega.{arith}
 use mathlib.Core.Path.{◌≡◌, refl, ap}
-use mathlib.Core.Bool.{Bool, true, not, false≢true}
-use mathlib.Core.List.{List, [], ◌∷◌, ◌++◌}
+use mathlib.Core.Bool.{Bool, true, not}
+use mathlib.Core.List.{List, [], ◌∷◌}
 use lib.ListN.{length}
-use lib.Dec.{eqb}
 use borrow.Author.Tests.{not-true}
 use Rattle.octets.specs.Runs.{Bytes}
 use Rattle.octets.proofs.Runs.{part_length, part_bytes, zero-bytes}
-use Rattle.ledger.specs.Tally.{has, without, all_of, first_of, free, next_from}
+use Rattle.ledger.specs.Tally.{has, all_of, first_of, free, next_from}
 use Rattle.ledger.proofs.Tallies.{both_of, to_both, picked, first_holds}
 use Rattle.fates_book.specs.declared.End.TheVariants.{Denied, Withdrawn}
 use Rattle.fates_book.specs.declared.Line.TheVariants.{Nothing}
 use Rattle.ledger.proofs.Sums.{of-asks}
 use Rattle.ledger.proofs.Lists.{replicate-at}
-use Rattle.paper.specs.Base.{number, is_in, Slot, closed, Table, fresh, slot, stream, waiting, further, lowest_free, token_of, ppa_numbers, knows, with_ppa, mac_size, stream_total}
+use Rattle.paper.specs.Base.{number, Slot, closed, Table, fresh, slot, stream, waiting, lowest_free, token_of, ppa_numbers, knows, with_ppa, mac_size, stream_total}
 use Rattle.paper.specs.Saps.{listens}
 use Rattle.paper.specs.RecordsIn.{input_of}
 use Rattle.paper.specs.Refusals.{Outcome}
@@ -23,7 +22,7 @@ use Rattle.paper.specs.Correlations.{occurrences, next_number, most_passed}
 use Rattle.paper.specs.ErrorCodes.{complaint_of}
 use Rattle.paper.specs.StateRows.{connect_res, disconnect_req, call_withdrawn, state_rows, found}
 use Rattle.paper.specs.Sight.{request_asks, letter_of}
-use Rattle.paper.specs.Effects.{changed, next, effect_of, event_effect}
+use Rattle.paper.specs.Effects.{effect_of, event_effect}
 use Rattle.paper.specs.Datagrams.{shown_to}
 use Rattle.paper.specs.Decide.{is_due}
 use Rattle.paper.specs.Step.{step_by, step}
@@ -35,18 +34,17 @@ use Rattle.paper.specs.declared.StateRow.{StateRow}
 use Rattle.paper.specs.declared.Event.{Event}
 use Rattle.paper.specs.declared.Found.TheVariants.{At}
 use Rattle.paper.proofs.RowFound.{row_from}
-use Rattle.paper.proofs.Fair.{Fair, informs, tells_token, attaches, detaches, binds, unbinds, connects, accepts_here, accepts_on, denies, disconnects, resets, answers_reset, sends_data, adds_sap, drops_sap}
+use Rattle.paper.proofs.Fair.{Fair, informs, tells_token, attaches, detaches, binds, unbinds, connects, accepts_here, accepts_on, denies, disconnects, resets, answers_reset, sends_data}
 use Rattle.paper.proofs.Walk.{done, failing, serving, Brings, arriving, accepted, gone, withdrawn, reset, confirmed, Way, refusing, adding, opening, closing, answering, bringing, showing, step_walk}
 use Rattle.paper.proofs.StateNumbers.{bound-attached}
 use Rattle.paper.proofs.Records.{AddsWhole, adds_whole}
 use Rattle.keeping.specs.Soundness.{Sound}
-use Rattle.keeping.specs.RowsFit.{to_state, last_state, may_take, may_lose, may_list, enders, fits_staying, fits_moving, fits_unbinding, fits_listing, fits_disconnecting, fits_attaching, fits_binding, fits_taking, fits_losing, RowsFit}
-use Rattle.keeping.proofs.Changes.{none_listed, opened, in_nine, ok-closed}
+use Rattle.keeping.specs.RowsFit.{to_state, last_state, may_take, may_lose, enders, fits_staying, fits_moving, fits_disconnecting, fits_attaching, fits_binding, fits_taking, fits_losing, RowsFit}
+use Rattle.keeping.proofs.Changes.{opened, in_nine, ok-closed}
 use Rattle.keeping.proofs.Leaves.{open_sound, ppa-sound}
 use Rattle.keeping.proofs.Traces.{shows_still, shows_opens}
-use Rattle.keeping.proofs.Rows.{state_rows_fit, row_of, passes, moves, lists}
-use Rattle.keeping.proofs.Effects.{Good, onward_good, unchanged_good, listing_good, attach_good, bind_good}
-use Rattle.keeping.proofs.Listing.{adds_listed, drops_listed}
+use Rattle.keeping.proofs.Rows.{state_rows_fit, row_of, passes}
+use Rattle.keeping.proofs.Effects.{Good, onward_good, unchanged_good, attach_good, bind_good}
 use Rattle.keeping.proofs.Lines.{quiet_complaint, quiet_frame}
 use Rattle.keeping.proofs.Listeners.{takes_good, less_good, accept_on, accept_here}
 use Rattle.keeping.proofs.Closes.{open_nonzero, close_good}
@@ -85,8 +83,7 @@ module _ (rows : List StateRow) (f : RowsFit rows) (t : Table) (k : Sound t) whe
   served_good i x r u h (attaches y) = attach_good t i _ i _ k u x _ _ _ _ (passing i h fits_attaching f.attaching) y refl
   served_good i x r u h detaches = onward_good t i _ i _ k u x _ _ _ (passing i h fits_moving f.moving) refl
   served_good i x r u h (binds y) = bind_good t i _ i _ k u x _ _ _ _ (passing i h fits_binding f.binding) y refl
-  served_good i x r u h unbinds =
-      listing_good t i _ i _ k u x _ _ _ _ [] (unfold changed in refl) (moves (stream t i) (next x) (passing i h fits_unbinding f.unbinding)) (none_listed (stream t i) [] refl) (λ e. absurd (false≢true e)) refl
+  served_good i x r u h unbinds = onward_good t i _ i _ k u x _ _ _ (passing i h fits_moving f.moving) refl
   served_good i x r u h (connects a) = onward_good t i _ i _ k u x _ _ _ (passing i h fits_moving f.moving) refl
   served_good i x r u h (accepts_here w y) = accept_here t k i u x _ w.number_open (loses-row i connect_res _ h refl w.number_open) _ i _ (Nothing ∷ []) refl refl refl y
   served_good i x r u h (accepts_on w y) = accept_on t k i u x _ w.number_open (loses-row i connect_res _ h refl w.number_open) _ _ _ (Nothing ∷ []) refl refl y
@@ -95,12 +92,6 @@ module _ (rows : List StateRow) (f : RowsFit rows) (t : Table) (k : Sound t) whe
   served_good i x r u h resets = onward_good t i _ i _ k u x _ _ _ (passing i h fits_moving f.moving) refl
   served_good i x r u h answers_reset = onward_good t i _ i _ k u x _ _ _ (passing i h fits_moving f.moving) refl
   served_good i x r u h (sends_data y) = unchanged_good t i _ i _ k u x _ _ _ (passing i h fits_staying f.staying) (row_from rows (stream t i) _ h) refl
-  served_good i x r u h (adds_sap {p = p} y) =
-      let g : may_list (number (stream t i)) (to_state x) ≡ true = passing i h fits_listing f.listing in
-      listing_good t i _ i _ k u x _ _ _ _ (further t i ++ (p.sap ∷ [])) (unfold changed in refl) (lists (stream t i) (next x) g) (adds_listed t k i (both_of (is_in 6 (stream t i)) (eqb (to_state x) 6) g).0 y) (λ _. (both_of (is_in 6 (stream t i)) (eqb (to_state x) 6) g).1) refl
-  served_good i x r u h (drops_sap {p = p} y) =
-      let g : may_list (number (stream t i)) (to_state x) ≡ true = passing i h fits_listing f.listing in
-      listing_good t i _ i _ k u x _ _ _ _ (without p.sap (further t i)) (unfold changed in refl) (lists (stream t i) (next x) g) (drops_listed t k i y) (λ _. (both_of (is_in 6 (stream t i)) (eqb (to_state x) 6) g).1) refl
 
   -- ---- what the line brings
   brought_good : (i : ℕ) (x : StateRow) (r : List ℕ) {q : Input} {e : Event} → Brings t q i e → found rows (stream t i) (letter_of e) ≡ At x → is_due (slot t i) e ≡ true

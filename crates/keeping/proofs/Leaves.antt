@@ -1,21 +1,20 @@
 -- What a call may change of the table: each change keeps it sound, since the stream changed is sound, its numbers are open nowhere
 -- else, and it listens for no more than before.
 use Prim.Native.Nat.{ℕ, ◌+◌, ◌-◌, ◌≤◌, ◌<◌, ◌^◌, min}
-use mathlib.Core.Path.{◌≡◌, refl, sym, ap, subst, ◌∙◌}
+use mathlib.Core.Path.{◌≡◌, refl, sym, ap, ◌∙◌}
 use mathlib.Core.Bool.{Bool, true, false, false≢true}
 use mathlib.Core.List.{List, [], ◌∷◌, ◌++◌, map}
 use lib.ListN.{length, length-set, length-append}
-use lib.Seq.{get_or-set_same}
 use lib.Dec.{eqb, ltb}
 use native.Mathlib.Omega.{arith}
 use borrow.Author.Tests.{eqb-true, ltb-true, ltb-false, lt-ltb}
 use Rattle.ledger.specs.Choice.{pick}
 use Rattle.ledger.specs.Tally.{one_if, occ, has, free}
-use Rattle.ledger.proofs.Tallies.{both_of, within, picked}
-use Rattle.ledger.proofs.Sums.{occ_append, sum_put, put_same}
+use Rattle.ledger.proofs.Tallies.{both_of, picked}
+use Rattle.ledger.proofs.Sums.{occ_append, sum_put}
 use Rattle.ledger.proofs.Lists.{each_set, each_more}
 use Rattle.paper.specs.Base.{number_of, is_in, bound_states, no_stream, in_state, attached_in, settled, Slot, closed, just_opened, Table, most_ppas}
-use Rattle.paper.specs.Base.{slot, stream, waiting, further, ppa_numbers, no_ppa, with_slot, with_numbers, with_stream, with_further, with_counter, with_ppa, remembering}
+use Rattle.paper.specs.Base.{slot, stream, waiting, ppa_numbers, no_ppa, with_slot, with_numbers, with_stream, with_counter, with_ppa, remembering}
 use Rattle.paper.specs.Saps.{listens}
 use Rattle.paper.specs.Correlations.{occurrences}
 use Rattle.paper.specs.Sound.{listeners_of}
@@ -23,8 +22,8 @@ use Rattle.paper.specs.declared.State.{State}
 use Rattle.paper.specs.declared.Stream.{Stream}
 use Rattle.paper.specs.declared.Ppa.{Ppa}
 use Rattle.paper.specs.declared.PpaNumber.{PpaNumber}
-use Rattle.keeping.specs.Soundness.{cap, Listed, Ok, Sound, IsMac}
-use Rattle.keeping.proofs.Changes.{Fits, none_listed, ok-closed, ok_none, ok-settled}
+use Rattle.keeping.specs.Soundness.{cap, Ok, Sound, IsMac}
+use Rattle.keeping.proofs.Changes.{Fits, ok-closed, ok_none, ok-settled}
 
 abbrev pub hearing : PpaNumber → ℕ → Stream → ℕ
 hearing p q s = one_if (listens p q s)
@@ -56,7 +55,7 @@ close_sound t k i = put_sound t k i closed (ok-closed (ppa_numbers t)) (λ n. om
 pub open_sound : (t : Table) → Sound t → (i : ℕ) → Sound (with_slot (remembering t) i just_opened)
 unfolding remembering occurrences listens
 open_sound t k i =
-    put_sound (remembering t) remembers i just_opened (ok_none (ppa_numbers t) [] [] refl (none_listed no_stream [] refl)) (λ n. omega (arith, k.once n)) (λ p q. omega (arith, k.alone p q)) (λ e. absurd (false≢true (sym e)))
+    put_sound (remembering t) remembers i just_opened (ok_none (ppa_numbers t) [] refl) (λ n. omega (arith, k.once n)) (λ p q. omega (arith, k.alone p q)) (λ e. absurd (false≢true (sym e)))
   where
     remembers : Sound (remembering t)
     remembers = record {
@@ -73,15 +72,15 @@ open_sound t k i =
 
 -- ---- an open stream and its numbers replaced
 
-numbers-sound : (t : Table) → Sound t → (i : ℕ) → (slot t i).is_open ≡ true → (s : Stream) (w : List ℕ) → Ok (ppa_numbers t) (record { is_open = true; stream = s; waiting = w; further = further t i })
+numbers-sound : (t : Table) → Sound t → (i : ℕ) → (slot t i).is_open ≡ true → (s : Stream) (w : List ℕ) → Ok (ppa_numbers t) (record { is_open = true; stream = s; waiting = w })
     → ((n : ℕ) → occ n w + occurrences t n ≤ cap n + occ n (waiting t i))
     → ((p : PpaNumber) (q : ℕ) → hearing p q s + listeners_of t p q ≤ 1 + hearing p q (stream t i))
     → Sound (with_numbers t i s w)
 unfolding with_numbers
-numbers-sound t k i u s w o h l = rw u (put_sound t k i (record { is_open = true; stream = s; waiting = w; further = further t i }) o h l (λ e. absurd (false≢true (sym (k.recalls e i) ∙ u))))
+numbers-sound t k i u s w o h l = rw u (put_sound t k i (record { is_open = true; stream = s; waiting = w }) o h l (λ e. absurd (false≢true (sym (k.recalls e i) ∙ u))))
 
 -- a stream alone
-pub stream-sound : (t : Table) → Sound t → (i : ℕ) → (slot t i).is_open ≡ true → (s : Stream) → Ok (ppa_numbers t) (record { is_open = true; stream = s; waiting = waiting t i; further = further t i })
+pub stream-sound : (t : Table) → Sound t → (i : ℕ) → (slot t i).is_open ≡ true → (s : Stream) → Ok (ppa_numbers t) (record { is_open = true; stream = s; waiting = waiting t i })
     → ((p : PpaNumber) (q : ℕ) → hearing p q s + listeners_of t p q ≤ 1 + hearing p q (stream t i))
     → Sound (with_stream t i s)
 unfolding with_stream
@@ -96,9 +95,8 @@ deaf t k i s z p sap = rw z (omega (arith, k.alone p sap))
 
 -- with other numbers
 pub standing-sound : (t : Table) → Sound t → (i : ℕ) (q : State) (w : List ℕ) → (slot t i).is_open ≡ true → Fits (stream t i) q → eqb (number_of q) 9 ≡ ltb 0 (length w)
-    → length w ≤ (stream t i).granted → ((n : ℕ) → occ n w + occurrences t n ≤ cap n + occ n (waiting t i)) → (ltb 0 (length (further t i)) ≡ true → eqb (number_of q) 6 ≡ true)
-    → Sound (with_numbers t i (settled q (stream t i)) w)
-standing-sound t k i q w u f n l h stays = numbers-sound t k i u (settled q (stream t i)) w (ok-settled (ppa_numbers t) (slot t i) q w (k.each i) f n l stays) h no_more
+    → length w ≤ (stream t i).granted → ((n : ℕ) → occ n w + occurrences t n ≤ cap n + occ n (waiting t i)) → Sound (with_numbers t i (settled q (stream t i)) w)
+standing-sound t k i q w u f n l h = numbers-sound t k i u (settled q (stream t i)) w (ok-settled (ppa_numbers t) (slot t i) q w (k.each i) f n l) h no_more
   where
     -- what counts for listening is no state
     same : (p : PpaNumber) (sap : ℕ) → hearing p sap (in_state q (stream t i)) + listeners_of t p sap ≤ 1 + hearing p sap (stream t i)
@@ -115,50 +113,10 @@ standing-sound t k i q w u f n l h stays = numbers-sound t k i u (settled q (str
 
 -- with its own, of which there are none: neither state is 9
 pub settle_sound : (t : Table) → Sound t → (i : ℕ) (q : State) → (slot t i).is_open ≡ true → is_in 9 (stream t i) ≡ false → eqb (number_of q) 9 ≡ false → Fits (stream t i) q
-    → (ltb 0 (length (further t i)) ≡ true → eqb (number_of q) 6 ≡ true) → Sound (with_stream t i (settled q (stream t i)))
+    → Sound (with_stream t i (settled q (stream t i)))
 unfolding with_stream
-settle_sound t k i q u n m f stays =
-    standing-sound t k i q (waiting t i) u f (m ∙ sym (sym (k.each i).nine ∙ n)) (k.each i).few (λ j. omega (arith, k.once j)) stays
-
--- with other further SAPs
-module _ (t : Table) (k : Sound t) (i : ℕ) (u : (slot t i).is_open ≡ true) (f : List ℕ) where
-  -- how the streams stand is as before, and these are the SAPs
-  pub same-stream : (s : ℕ) → stream (with_further t i f) s ≡ stream t s
-  unfolding with_further with_slot
-  same-stream s = put_same (λ (x : Slot). x.stream) closed t.slots i s _ refl
-
-  there : further (with_further t i f) i ≡ f
-  unfolding with_further with_slot
-  there = ap (λ (x : Slot). x.further) (get_or-set_same t.slots i _ closed (within (λ (x : Slot). x.is_open) closed refl t.slots i u))
-
-  further-sound : Listed (stream t i) f → Sound (with_further t i f)
-  unfolding with_further
-  further-sound l =
-      let o : Ok (ppa_numbers t) (slot t i) = k.each i in
-      put_sound t k i _
-      (record {
-        shut = λ e. absurd (false≢true (sym e ∙ u));
-        loose = o.loose;
-        attached = o.attached;
-        unbound = o.unbound;
-        bound = o.bound;
-        connected = o.connected;
-        nine = o.nine;
-        few = o.few;
-        listed = l;
-      })
-      (λ n. omega (arith, k.once n)) (λ p q. omega (arith, k.alone p q)) (λ e. k.recalls e i)
-
-  pub listing-sound : (q : State) → Listed (stream t i) f → is_in 9 (stream t i) ≡ false → eqb (number_of q) 9 ≡ false → Fits (stream t i) q
-      → (ltb 0 (length f) ≡ true → eqb (number_of q) 6 ≡ true) → Sound (with_stream (with_further t i f) i (settled q (stream t i)))
-  listing-sound q l n m g stays =
-      let v : Table = with_further t i f in
-      let same : stream v i ≡ stream t i = same-stream i in
-      subst (λ (s : Stream). Sound (with_stream v i (settled q s))) same
-      (settle_sound v (further-sound l) i q still_open_lem (ap (is_in 9) same ∙ n) m (subst (λ (s : Stream). Fits s q) (sym same) g) (λ e. stays (ap (λ (w : List ℕ). ltb 0 (length w)) (sym there) ∙ e)))
-    where
-      still_open_lem : (slot (with_further t i f) i).is_open ≡ true
-      still_open_lem = unfold with_further with_slot in put_same (λ (x : Slot). x.is_open) closed t.slots i i _ refl ∙ u
+settle_sound t k i q u n m f =
+    standing-sound t k i q (waiting t i) u f (m ∙ sym (sym (k.each i).nine ∙ n)) (k.each i).few (λ j. omega (arith, k.once j))
 
 -- ---- the counter, and one more number, that is free
 
@@ -167,14 +125,13 @@ unfolding with_counter occurrences
 counter-sound t k c b = record { sixteen = k.sixteen; small = b; each = k.each; once = k.once; alone = k.alone; differ = k.differ; most = k.most; macs = k.macs; recalls = k.recalls }
 
 pub more-sound : (t : Table) → Sound t → (i n c : ℕ) (q : State) → c < 2 ^ 32 → free (occurrences t) n ≡ true → n < 2 ^ 32 → (slot t i).is_open ≡ true → Fits (stream t i) q → eqb (number_of q) 9 ≡ true
-    → length (waiting t i) < (stream t i).granted → ltb 0 (length (further t i)) ≡ false
-    → Sound (with_numbers (with_counter t c) i (settled q (stream t i)) (waiting t i ++ (n ∷ [])))
+    → length (waiting t i) < (stream t i).granted → Sound (with_numbers (with_counter t c) i (settled q (stream t i)) (waiting t i ++ (n ∷ [])))
 unfolding with_counter occurrences
-more-sound t k i n c q b f v u w m l z =
+more-sound t k i n c q b f v u w m l =
     let f' : (ltb 0 n ≡ true) × (eqb (occurrences t n) 0 ≡ true) = both_of (ltb 0 n) (eqb (occurrences t n) 0) f in
     standing-sound (with_counter t c) (counter-sound t k c b) i q (waiting t i ++ (n ∷ [])) u w
     (m ∙ sym (lt-ltb 0 (length (waiting t i ++ (n ∷ []))) (simp length-append (omega arith)))) (simp length-append (omega arith))
-    (λ j. more j (ltb-true 0 n f'.0) (eqb-true (occurrences t n) 0 f'.1)) (λ e. absurd (false≢true (sym z ∙ e)))
+    (λ j. more j (ltb-true 0 n f'.0) (eqb-true (occurrences t n) 0 f'.1))
   where
     more : (j : ℕ) → 0 < n → occurrences t n ≡ 0 → occ j (waiting t i ++ (n ∷ [])) + occurrences t j ≤ cap j + occ j (waiting t i)
     more j h z = rw occ_append (at_b (eqb j n) refl)
@@ -216,7 +173,6 @@ ppa-sound t k p l n u m = record {
       connected = o.connected;
       nine = o.nine;
       few = o.few;
-      listed = o.listed;
     }
       where
         still : (q : ℕ) → 0 < occ q (ppa_numbers t) → has q (ppa_numbers t ++ (new ∷ [])) ≡ true

@@ -15,20 +15,20 @@ use Rattle.ledger.specs.Lists.{joined}
 use Rattle.octets.specs.Numbers.{be16, be32}
 use Rattle.octets.specs.Blocks.{flat, pad_to}
 use Rattle.octets.specs.Runs.{are_bytes}
-use Rattle.paper.specs.Base.{number_of, form_of, is_in, is_among, bound_states, Slot, closed, Table, slot, stream, waiting, further, ppa_numbers, no_ppa}
+use Rattle.paper.specs.Base.{number_of, is_in, is_among, bound_states, Slot, closed, Table, slot, stream, waiting, ppa_numbers, no_ppa}
 use Rattle.paper.specs.Correlations.{occurrences}
 use Rattle.paper.specs.declared.Stream.{Stream}
 use Rattle.paper.specs.declared.Ppa.{Ppa}
 use Rattle.paper.proofs.StateNumbers.{state_byte}
-use Rattle.paper.proofs.Saps.{Small, bind_small, bindable-small}
+use Rattle.paper.proofs.Saps.{Small, bind_small}
 use Rattle.paper.specs.Saps.{most_open}
-use Rattle.table_image.specs.Layout.{mask_of, ppa_bytes, stream_bytes, waiting_bytes, further_bytes, slot_bytes, header_bytes, image_of, places_size, numbers_size, further_size}
+use Rattle.table_image.specs.Layout.{mask_of, ppa_bytes, stream_bytes, waiting_bytes, slot_bytes, header_bytes, image_of, places_size, numbers_size}
 use Rattle.table_image.specs.Shape.{Shaped}
 use Rattle.keeping.specs.Soundness.{Sound}
 use Rattle.keeping.proofs.Changes.{eight}
 
 pub shaped : (t : Table) → Sound t → Shaped t
-shaped t k = record { sixteen = k.sixteen; few = k.most; macs = λ j. (k.macs j).six; eight = λ i. omega (arith, (k.each i).few, eight (ppa_numbers t) (slot t i) (k.each i)); four = λ i. (k.each i).listed.four }
+shaped t k = record { sixteen = k.sixteen; few = k.most; macs = λ j. (k.macs j).six; eight = λ i. omega (arith, (k.each i).few, eight (ppa_numbers t) (slot t i) (k.each i)) }
 
 -- ---- bytes
 append_bytes : (a b : List ℕ) → are_bytes a ≡ true → are_bytes b ≡ true → are_bytes (a ++ b) ≡ true
@@ -60,10 +60,6 @@ joined_bytes f d (x ∷ l) h = append_bytes (f x) (joined f l) (h 0) (joined_byt
 flat-bytes : (w : List ℕ) → ((n : ℕ) → 0 < occ n w → n < 2 ^ 32) → are_bytes (flat w) ≡ true
 flat-bytes [] h = refl
 flat-bytes (x ∷ w) h = append_bytes (be32 x) (flat w) (be32-bytes x (h x (rw (eq-eqb x x refl) (omega arith)))) (flat-bytes w (λ n m. h n (omega arith)))
-
-saps_bytes : (f : List ℕ) → ((n : ℕ) → 0 < occ n f → n < 65536) → are_bytes (joined be16 f) ≡ true
-saps_bytes [] h = refl
-saps_bytes (x ∷ f) h = append_bytes (be16 x) (joined be16 f) (be16-bytes x (h x (rw (eq-eqb x x refl) (omega arith)))) (saps_bytes f (λ n m. h n (omega arith)))
 
 mask_below : (l : List Slot) → mask_of l < 2 ^ length l
 mask_below [] = omega arith
@@ -100,22 +96,19 @@ module _ (t : Table) (k : Sound t) where
   open_small i n h = omega (arith, sum_at (λ (x : Slot). occ n x.waiting) closed refl t.slots i, k.once n)
 
   slot-bytes : (i : ℕ) → are_bytes (slot_bytes (slot t i)) ≡ true
-  unfolding stream_bytes waiting_bytes further_bytes
+  unfolding stream_bytes waiting_bytes
   slot-bytes i =
       let s : Stream = stream t i in
       let w : List ℕ = waiting t i in
       let e : s.granted ≤ most_open = eight (ppa_numbers t) (slot t i) (k.each i) in
-      let f : List ℕ = further t i in
-      append_bytes (stream_bytes s ++ waiting_bytes w) (further_bytes f)
-      (append_bytes (stream_bytes s) (waiting_bytes w)
+      append_bytes (stream_bytes s) (waiting_bytes w)
       (append_bytes ((number_of s.state ∷ s.mode ∷ []) ++ be16 s.sap ++ be32 s.ppa.0) (s.granted ∷ [])
       (append_bytes ((number_of s.state ∷ s.mode ∷ []) ++ be16 s.sap) (be32 s.ppa.0)
       (append_bytes (number_of s.state ∷ s.mode ∷ []) (be16 s.sap) (byte (number_of s.state) (s.mode ∷ []) (state_byte s.state) (byte s.mode [] (seat-small i).mode refl))
       (be16-bytes s.sap (seat-small i).sap))
       (be32-bytes s.ppa.0 (ppa-small i)))
       (byte s.granted [] (omega arith) refl))
-      (byte (length w) (pad_to numbers_size (flat w)) (omega (arith, (k.each i).few)) (pad-bytes numbers_size (flat w) (flat-bytes w (open_small i)))))
-      (byte (length f) (pad_to further_size (joined be16 f)) (omega (arith, (k.each i).listed.four)) (pad-bytes further_size (joined be16 f) (saps_bytes f (λ n h. bindable-small (form_of s.sap) n ((k.each i).listed.bindable n (lt-ltb _ _ h))))))
+      (byte (length w) (pad_to numbers_size (flat w)) (omega (arith, (k.each i).few)) (pad-bytes numbers_size (flat w) (flat-bytes w (open_small i))))
 
   ppa-bytes : (j : ℕ) → are_bytes (ppa_bytes (get_or t.ppas j no_ppa)) ≡ true
   ppa-bytes j =

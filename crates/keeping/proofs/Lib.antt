@@ -11,7 +11,6 @@ pub mod Traces
 pub mod Rows
 pub mod Binds
 pub mod Effects
-pub mod Listing
 pub mod Listeners
 pub mod Closes
 pub mod Kept

@@ -3,7 +3,7 @@
 use Prim.Native.Nat.{ℕ, suc, ◌≤◌, ◌<◌, ◌^◌}
 use native.Mathlib.Omega.{arith}
 use mathlib.Core.Path.{◌≡◌, refl, sym, ap, ◌∙◌}
-use mathlib.Core.Bool.{Bool, true, false, not, false≢true}
+use mathlib.Core.Bool.{Bool, true, false, not}
 use mathlib.Core.List.{List, [], ◌∷◌}
 use lib.ListN.{length}
 use lib.Seq.{get_or-set_same, get_or-set_other}
@@ -17,7 +17,7 @@ use Rattle.fates_book.specs.declared.Line.{Line}
 use Rattle.fates_book.specs.declared.Line.TheVariants.{Came, Went}
 use Rattle.fates_book.proofs.Shades.{silent}
 use Rattle.ledger.proofs.Sums.{occ-without}
-use Rattle.paper.specs.Base.{number_of, state_of, number, is_in, is_among, bound_states, connection_states, in_state, settled, Slot, closed, Table, slot, stream, waiting, further, ppa_numbers, with_slot, with_numbers}
+use Rattle.paper.specs.Base.{number_of, state_of, number, is_in, is_among, bound_states, connection_states, in_state, settled, Slot, closed, Table, slot, stream, waiting, ppa_numbers, with_slot, with_numbers}
 use Rattle.paper.specs.Correlations.{occurrences, one_past}
 use Rattle.paper.specs.Effects.{standing, changed, carried, enacted, next, less, more, acting, accepting}
 use Rattle.paper.specs.declared.State.{State}
@@ -34,7 +34,7 @@ use Rattle.paper.proofs.StateNumbers.{bound-attached, settled-bound}
 use Rattle.paper.proofs.Saps.{allows}
 use Rattle.keeping.specs.Soundness.{Sound}
 use Rattle.keeping.specs.RowsFit.{to_state, last_state, may_take, may_lose}
-use Rattle.keeping.proofs.Changes.{Fits, eight, in_nine, unlisted_one}
+use Rattle.keeping.proofs.Changes.{Fits, eight, in_nine}
 use Rattle.keeping.proofs.Leaves.{standing-sound, settle_sound, more-sound}
 use Rattle.keeping.proofs.Traces.{Shows, shows_stream, shows_less, shows_more}
 use Rattle.keeping.proofs.Lines.{effect_lines}
@@ -52,7 +52,7 @@ module _ (t : Table) (k : Sound t) (i : ℕ) (u : (slot t i).is_open ≡ true) (
       let one : (stream t i).mode ≡ 1 = (allows (stream t i) ((k.each i).bound d.0)).some (omega arith) in
       let j : Fits (stream t i) (next x) = record { attached = λ _. bound-attached (number (stream t i)) d.0; bound = λ _. d.0; connected = λ _. one } in
       record {
-        kept = more-sound t k i n.0 (one_past n.0) (next x) (omega arith) v w u j d.1 g (unlisted_one (ppa_numbers t) (slot t i) (k.each i) one);
+        kept = more-sound t k i n.0 (one_past n.0) (next x) (omega arith) v w u j d.1 g;
         seen = shows_lines t i q c r (acting (more x (stream t i) n) o f a) _ _ y
             (shows_more t i u (settled (next x) (stream t i)) (same_grant (stream t i) (next x) j) n.0 (one_past n.0) (omega (arith, eight (ppa_numbers t) (slot t i) (k.each i))));
       }
@@ -93,7 +93,7 @@ module _ (t : Table) (k : Sound t) (i : ℕ) (u : (slot t i).is_open ≡ true) (
     unfolding changed
     less-sound = rw (stands left)
         (standing-sound t k i (goes_to left) left u (fits_all (goes_to left)) (suits left) (omega (arith, length-without_le n.0 (waiting t i), (k.each i).few))
-        (λ j. omega (arith, occ-without j n.0 (waiting t i), k.once j)) (λ f. absurd (false≢true (sym (unlisted_one (ppa_numbers t) (slot t i) (k.each i) in_mode_one) ∙ f))))
+        (λ j. omega (arith, occ-without j n.0 (waiting t i), k.once j)))
       where
         suits : (w : List ℕ) → eqb (number_of (goes_to w)) 9 ≡ ltb 0 (length w)
         suits [] = last_calm
@@ -124,8 +124,7 @@ module _ (t : Table) (k : Sound t) (i : ℕ) (u : (slot t i).is_open ≡ true) (
               connected = λ _. ap (λ (s : Slot). s.stream.mode) g ∙ one;
             } in
             record {
-              kept = settle_sound v less-sound c DataXfer (ap (λ (s : Slot). s.is_open) g ∙ p) (ap (λ (s : Slot). is_in 9 s.stream) g ∙ j) refl f
-                  (λ w. absurd (false≢true (sym (unlisted_one (ppa_numbers v) (slot v c) (less-sound.each c) (ap (λ (s : Slot). s.stream.mode) g ∙ one)) ∙ w)));
+              kept = settle_sound v less-sound c DataXfer (ap (λ (s : Slot). s.is_open) g ∙ p) (ap (λ (s : Slot). is_in 9 s.stream) g ∙ j) refl f;
               seen = shows_stream t v _ c (settled DataXfer (stream v c)) (shows_lines t i q c r (accepting x (stream t i) n) _ _ y (less_shows Accepted zs z)) (same_grant (stream v c) DataXfer f);
             }
 
@@ -140,11 +139,11 @@ module _ (t : Table) (k : Sound t) (i : ℕ) (u : (slot t i).is_open ≡ true) (
         -- the listener itself, of which no other number is open
         pub accept_here : c ≡ i → length (waiting t i) ≤ 1 → Good t q (done t i c r (accepting x (stream t i) n))
         accept_here g l =
-            carrier_good (record { is_open = true; stream = in_state (state_of x.last) (stream t i); waiting = []; further = further t i })
+            carrier_good (record { is_open = true; stream = in_state (state_of x.last) (stream t i); waiting = [] })
             (here (empty left (omega (arith, length_without n.0 (waiting t i) (ltb-true 0 (occ n.0 (waiting t i)) h))))) refl last_calm last-bound in_mode_one
           where
-            here : left ≡ [] → slot (changed t i (less x (stream t i) n)) c ≡ record { is_open = true; stream = in_state (state_of x.last) (stream t i); waiting = []; further = further t i }
+            here : left ≡ [] → slot (changed t i (less x (stream t i) n)) c ≡ record { is_open = true; stream = in_state (state_of x.last) (stream t i); waiting = [] }
             here w = unfold changed with_numbers with_slot in
                 ap (slot (changed t i (less x (stream t i) n))) g
                 ∙ get_or-set_same t.slots i _ closed (within (λ (s : Slot). s.is_open) closed refl t.slots i u)
-                ∙ rw (u, w) (ap (λ (s : Stream). record { is_open = true; stream = s; waiting = []; further = further t i }) (stands [] ∙ settled-bound (stream t i) (state_of x.last) last-bound))
+                ∙ rw (u, w) (ap (λ (s : Stream). record { is_open = true; stream = s; waiting = [] }) (stands [] ∙ settled-bound (stream t i) (state_of x.last) last-bound))

@@ -1,14 +1,14 @@
 -- The row that a stream has for what comes passes each test that the list passes, and is one for that stream: so a test of it is a
 -- test of the stream, and of where the row leads.
 use Prim.Native.Nat.{ℕ}
-use mathlib.Core.Path.{◌≡◌, refl, sym, ap, ◌∙◌}
-use mathlib.Core.Bool.{Bool, true, false, not, false≢true}
+use mathlib.Core.Path.{◌≡◌, refl, ap}
+use mathlib.Core.Bool.{Bool, true, false, not}
 use mathlib.Core.List.{List}
 use lib.Dec.{eqb}
-use borrow.Author.Tests.{eqb-true, eq-eqb, not-true}
+use borrow.Author.Tests.{eqb-true, not-true}
 use Rattle.ledger.specs.Choice.{both, asks, ◌⇒◌∣◌}
 use Rattle.ledger.specs.Tally.{has, all_of}
-use Rattle.ledger.proofs.Tallies.{both_of, to_both}
+use Rattle.ledger.proofs.Tallies.{both_of}
 use Rattle.ledger.proofs.Sums.{of-asks}
 use Rattle.paper.specs.Base.{number_of, state_of, number, is_in, bound_states, connection_states}
 use Rattle.paper.specs.StateRows.{state_rows, found}
@@ -17,13 +17,13 @@ use Rattle.paper.specs.declared.State.{State}
 use Rattle.paper.specs.declared.Stream.{Stream}
 use Rattle.paper.specs.declared.StateRow.{StateRow}
 use Rattle.paper.specs.declared.Found.TheVariants.{At}
-use Rattle.keeping.specs.RowsFit.{holds_for, may_move, may_lead, may_list, RowsFit}
+use Rattle.keeping.specs.RowsFit.{holds_for, may_lead, RowsFit}
 use Rattle.keeping.proofs.Changes.{Fits}
 
 -- The paper's rows pass.
 pub state_rows_fit : RowsFit state_rows
 unfolding state_of ◌⇒◌∣◌
-state_rows_fit = record { staying = refl; moving = refl; unbinding = refl; listing = refl; disconnecting = refl; attaching = refl; binding = refl; taking = refl; losing = refl }
+state_rows_fit = record { staying = refl; moving = refl; disconnecting = refl; attaching = refl; binding = refl; taking = refl; losing = refl }
 
 -- a stream's row for c, with the stream's own state and mode in it
 abbrev pub row_of : Stream → ℕ → StateRow → StateRow
@@ -49,35 +49,9 @@ pub record Moves (s : Stream) (q : State) : Type 0 where
   pub calm : eqb (number_of q) 9 ≡ false
   pub fits : Fits s q
 
-pub moves : (s : Stream) (q : State) → may_move (number s) s.mode (number_of q) ≡ true → Moves s q
-moves s q h =
+pub leads_moves : (s : Stream) (q : State) → may_lead (number s) s.mode (number_of q) ≡ true → Moves s q
+leads_moves s q h =
     let n : ℕ = number_of q in
     let a : (not (is_in 9 s) ≡ true) × (both (not (eqb n 9)) (holds_for (number s) s.mode n) ≡ true) = both_of _ _ h in
     let b : (not (eqb n 9) ≡ true) × (holds_for (number s) s.mode n ≡ true) = both_of _ _ a.1 in
     record { quiet = not-true _ a.0; calm = not-true _ b.0; fits = holds_fits s q b.1 }
-
--- with its further SAPs
-pub record Leads (s : Stream) (q : State) : Type 0 where
-  pub moves : Moves s q
-  pub stays : is_in 6 s ≡ true → s.mode ≡ 2 → eqb (number_of q) 6 ≡ true
-
-pub leads : (s : Stream) (q : State) → may_lead (number s) s.mode (number_of q) ≡ true → Leads s q
-leads s q h =
-    let a : (may_move (number s) s.mode (number_of q) ≡ true) × (asks (both (is_in 6 s) (eqb s.mode 2)) (eqb (number_of q) 6) ≡ true) = both_of _ _ h in
-    record { moves = moves s q a.0; stays = λ e f. of-asks _ _ a.1 (to_both _ _ e (eq-eqb _ _ f)) }
-
--- from 6 to 6
-pub lists : (s : Stream) (q : State) → may_list (number s) (number_of q) ≡ true → Moves s q
-lists s q h =
-    let a : (is_in 6 s ≡ true) × (eqb (number_of q) 6 ≡ true) = both_of _ _ h in
-    let from : number s ≡ 6 = eqb-true _ _ a.0 in
-    let to : number_of q ≡ 6 = eqb-true _ _ a.1 in
-    record {
-      quiet = ap (λ (m : ℕ). eqb m 9) from;
-      calm = ap (λ (m : ℕ). eqb m 9) to;
-      fits = record {
-        attached = λ _. ap (λ (m : ℕ). eqb m 0) from;
-        bound = λ _. ap (λ (m : ℕ). has m bound_states) from;
-        connected = λ e. absurd (false≢true (sym (ap (λ (m : ℕ). has m connection_states) to) ∙ e));
-      };
-    }

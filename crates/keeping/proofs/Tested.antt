@@ -7,17 +7,17 @@ use lib.ListN.{length, get_or}
 use lib.Dec.{eqb, ltb, leb}
 use native.Mathlib.Omega.{arith}
 use borrow.Author.Tests.{eqb-true, eq-eqb, ltb-true, ltb-false, lt-ltb, leb-true, le-leb, not-true}
-use Rattle.ledger.specs.Choice.{pick, both, either}
+use Rattle.ledger.specs.Choice.{pick, either}
 use Rattle.ledger.specs.Tally.{one_if, occ, has, all_of}
 use Rattle.ledger.proofs.Tallies.{both_of, to_both, picked, all_at, at_all, nth}
 use Rattle.ledger.proofs.Sums.{sum_at, sum_some, all_occ, occ_all, all_sum, of-asks, to_asks}
-use Rattle.paper.specs.Base.{form_of, is_in, is_among, bound_states, connection_states, Slot, closed, bound_to, Table, slot, stream, waiting, ppa_numbers, no_ppa, stream_total}
-use Rattle.paper.specs.Saps.{could_be_bound, as_bind_allows, listens}
+use Rattle.paper.specs.Base.{is_in, is_among, bound_states, connection_states, Slot, closed, Table, slot, stream, waiting, ppa_numbers, no_ppa, stream_total}
+use Rattle.paper.specs.Saps.{as_bind_allows, listens}
 use Rattle.paper.specs.Correlations.{occurrences}
-use Rattle.paper.specs.Sound.{every, same_answer, unbound, holds_nothing, further_tests, open_tests, sound_slot, is_single, listeners_of, is_alone, sound_tests, sound, Bindless}
+use Rattle.paper.specs.Sound.{every, same_answer, unbound, holds_nothing, open_tests, sound_slot, is_single, listeners_of, is_alone, sound_tests, sound, Bindless}
 use Rattle.paper.specs.declared.Stream.{Stream}
 use Rattle.paper.specs.declared.PpaNumber.{PpaNumber}
-use Rattle.keeping.specs.Soundness.{cap, Listed, Ok, Sound, IsMac}
+use Rattle.keeping.specs.Soundness.{cap, Ok, Sound, IsMac}
 use Rattle.keeping.proofs.Changes.{ok-closed}
 use Rattle.paper.proofs.Saps.{Listening, listens-is}
 use Rattle.paper.proofs.SoundTests.{no_bind, closed_is}
@@ -30,31 +30,6 @@ of-same : (a b : Bool) → same_answer a b ≡ true → a ≡ b
 of-same true b e = sym e
 of-same false b e = sym (not-true b e)
 
--- ---- further SAPs
-
-listed_test : (x : Slot) → Listed x.stream x.further → every (further_tests x) ≡ true
-listed_test x l =
-    to_both _ _ (to_asks (ltb 0 (length x.further)) _ (λ e. to_both _ _ (l.idle e) (eq-eqb _ _ (l.connectionless e))))
-    (to_both _ _ (le-leb _ _ l.four)
-    (to_both _ _ (occ_all (could_be_bound (form_of x.stream.sap)) x.further (λ n m. l.bindable n (lt-ltb _ _ m)))
-    (to_both _ _ (occ_all (λ (n : ℕ). leb (occ n (bound_to x)) 1) (bound_to x) (λ n m. le-leb (occ n (bound_to x)) 1 (l.once n))) refl)))
-
-listed_tested : (x : Slot) → every (further_tests x) ≡ true → Listed x.stream x.further
-listed_tested x h =
-    let held : ltb 0 (length x.further) ≡ true → (is_in 6 x.stream ≡ true) × (eqb x.stream.mode 2 ≡ true) =
-    λ e. both_of _ _ (of-asks (ltb 0 (length x.further)) (both (is_in 6 x.stream) (eqb x.stream.mode 2)) (nth (further_tests x) h 0) e) in
-    record {
-      idle = λ e. (held e).0;
-      connectionless = λ e. eqb-true _ _ (held e).1;
-      four = leb-true _ _ (nth (further_tests x) h 1);
-      bindable = λ n m. all_occ (could_be_bound (form_of x.stream.sap)) n x.further (nth (further_tests x) h 2) (ltb-true _ _ m);
-      once = λ n. one n (ltb 0 (occ n (bound_to x))) refl (nth (further_tests x) h 3);
-    }
-  where
-    one : (n : ℕ) (b : Bool) → ltb 0 (occ n (bound_to x)) ≡ b → all_of (λ (n : ℕ). leb (occ n (bound_to x)) 1) (bound_to x) ≡ true → occ n (bound_to x) ≤ 1
-    one n true e h = leb-true _ _ (all_occ (λ (n : ℕ). leb (occ n (bound_to x)) 1) n (bound_to x) h (ltb-true 0 (occ n (bound_to x)) e))
-    one n false e h = omega (arith, ltb-false 0 (occ n (bound_to x)) e)
-
 -- ---- from the facts
 slot_test : (ps : List ℕ) (x : Slot) → Ok ps x → sound_slot ps x ≡ true
 unfolding sound_slot holds_nothing
@@ -63,8 +38,7 @@ slot_test ps x o = picked (λ (b : Bool). b ≡ true) x.is_open (every (open_tes
     (to_both _ _ (picked (λ (b : Bool). b ≡ true) (is_among bound_states x.stream) _ _ o.bound (λ z. bare (o.unbound z)))
     (to_both _ _ (to_asks (is_among connection_states x.stream) _ (λ z. eq-eqb _ _ (o.connected z)))
     (to_both _ _ (to_same _ _ o.nine)
-    (to_both _ _ (le-leb _ _ o.few)
-    (to_both _ _ (listed_test x o.listed) refl))))))
+    (to_both _ _ (le-leb _ _ o.few) refl)))))
     (λ e. ap holds_nothing (o.shut e))
   where
     bare : Bindless x.stream → every (unbound x.stream) ≡ true
@@ -115,7 +89,6 @@ slot_tested ps x h = go x.is_open refl h
           connected = λ z. eqb-true _ _ (of-asks (is_among connection_states s) (eqb s.mode 1) (nth (open_tests ps x) h 2) z);
           nine = of-same _ _ (nth (open_tests ps x) h 3);
           few = leb-true _ _ (nth (open_tests ps x) h 4);
-          listed = listed_tested x (nth (open_tests ps x) h 5);
         }
     go false e h = none (closed_is x h e)
 

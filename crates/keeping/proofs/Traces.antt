@@ -18,7 +18,7 @@ use Rattle.fates_book.specs.declared.Line.TheVariants.{Began, Came, Went, Given}
 use Rattle.fates_book.specs.Book.{grant_by}
 use Rattle.fates_book.proofs.Shades.{silent, shade, shades, fairs, rooteds, openings_in, Silent, silence, Taken}
 use Rattle.ledger.proofs.Sums.{there, put_in, put_same, put_cases}
-use Rattle.paper.specs.Base.{is_among, bound_states, Slot, closed, just_opened, Table, slot, stream, waiting, further, with_slot, with_numbers, with_stream, with_further, with_counter, remembering}
+use Rattle.paper.specs.Base.{is_among, bound_states, Slot, closed, just_opened, Table, slot, stream, waiting, with_slot, with_numbers, with_stream, with_counter, remembering}
 use Rattle.paper.specs.declared.Stream.{Stream}
 use Rattle.paper.specs.Saps.{most_open}
 
@@ -69,21 +69,7 @@ shows_stream t u ys i x a m s = record {
 }
   where
     y : Slot
-    y = record { is_open = (slot u i).is_open; stream = x; waiting = waiting u i; further = further u i }
-
--- further SAPs say nothing of indications
-pub shows_further : (t u : Table) (ys : List Line) (i : ℕ) (f : List ℕ) → Shows t ys u → Shows t ys (with_further u i f)
-unfolding with_further with_slot
-shows_further t u ys i f a s = record {
-  shaded = put_same waiting_of closed u.slots i s y refl ∙ (a s).shaded;
-  fairly = (a s).fairly;
-  granted = λ g h. subst (λ (x : Stream). is_among bound_states x ≡ true → x.granted ≡ grant_by s ys g) (sym (put_same (λ (x : Slot). x.stream) closed u.slots i s y refl)) ((a s).granted g h);
-  rootedly = (a s).rootedly;
-  opens = λ k h o. (a s).opens k h (sym (put_same is_open_of closed u.slots i s y refl) ∙ o);
-}
-  where
-    y : Slot
-    y = record { is_open = (slot u i).is_open; stream = stream u i; waiting = waiting u i; further = f }
+    y = record { is_open = (slot u i).is_open; stream = x; waiting = waiting u i }
 
 -- an open stream changes with its numbers: one goes, which is told first; one comes
 module _ (t : Table) (i : ℕ) (o : (slot t i).is_open ≡ true) (x : Stream) (m : SameGrant (stream t i) x) where
@@ -102,7 +88,7 @@ module _ (t : Table) (i : ℕ) (o : (slot t i).is_open ≡ true) (x : Stream) (m
       }
     where
       y : Slot
-      y = record { is_open = (slot t i).is_open; stream = x; waiting = without n (waiting t i); further = further t i }
+      y = record { is_open = (slot t i).is_open; stream = x; waiting = without n (waiting t i) }
 
   pub shows_more : (n c : ℕ) → length (waiting t i) < most_open → Shows t (Came i n ∷ []) (with_numbers (with_counter t c) i x (waiting t i ++ (n ∷ [])))
   unfolding with_counter with_numbers with_slot
@@ -116,7 +102,7 @@ module _ (t : Table) (i : ℕ) (o : (slot t i).is_open ≡ true) (x : Stream) (m
   }
     where
       y : Slot
-      y = record { is_open = (slot t i).is_open; stream = x; waiting = waiting t i ++ (n ∷ []); further = further t i }
+      y = record { is_open = (slot t i).is_open; stream = x; waiting = waiting t i ++ (n ∷ []) }
 
 -- a closed stream opens
 pub shows_opens : (t : Table) (i : ℕ) → i < length t.slots → length (waiting t i) ≡ 0 → Shows t (Began i ∷ []) (with_slot (remembering t) i just_opened)
@@ -149,7 +135,7 @@ shows_binds t i h x s = record {
 }
   where
     y : Slot
-    y = record { is_open = (slot t i).is_open; stream = x; waiting = waiting t i; further = further t i }
+    y = record { is_open = (slot t i).is_open; stream = x; waiting = waiting t i }
 
     at_b : (d : ℕ) → (is_among bound_states (stream t s) ≡ true → (stream t s).granted ≡ d) → (b : Bool) → eqb s i ≡ b
         → is_among bound_states (stream (with_slot t i y) s) ≡ true → (stream (with_slot t i y) s).granted ≡ pick b x.granted d

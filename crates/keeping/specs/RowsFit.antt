@@ -7,7 +7,7 @@ use Rattle.ledger.specs.Tally.{has, all_of}
 use Rattle.paper.specs.Base.{number_of, state_of, bound_states, connection_states}
 use Rattle.paper.specs.Effects.{next}
 use Rattle.paper.specs.StateRows.{info_req, bind_req, unbind_req, unitdata_req, attach_req, detach_req, connect_req, connect_res, token_req, disconnect_req}
-use Rattle.paper.specs.StateRows.{reset_req, reset_res, subs_bind_req, subs_unbind_req, call_arrives, peer_accepted, peer_gone, call_withdrawn, peer_reset, reset_confirmed}
+use Rattle.paper.specs.StateRows.{reset_req, reset_res, call_arrives, peer_accepted, peer_gone, call_withdrawn, peer_reset, reset_confirmed}
 use Rattle.paper.specs.declared.StateRow.{StateRow}
 
 -- the numbers of the states that a row leads to
@@ -25,24 +25,16 @@ holds_for from mode to =
     both (asks (not (eqb to 0)) (not (eqb from 0))) (both (asks (has to bound_states) (has from bound_states)) (asks (has to connection_states) (eqb mode 1)))
 
 -- It moves so, and neither state has open indications.
-abbrev pub may_move : ℕ → ℕ → ℕ → Bool
-may_move from mode to = both (not (eqb from 9)) (both (not (eqb to 9)) (holds_for from mode to))
-
--- It takes its further SAPs along: where it may have some, in 6 and mode 2, it stays.
 abbrev pub may_lead : ℕ → ℕ → ℕ → Bool
-may_lead from mode to = both (may_move from mode to) (asks (both (eqb from 6) (eqb mode 2)) (eqb to 6))
+may_lead from mode to = both (not (eqb from 9)) (both (not (eqb to 9)) (holds_for from mode to))
 
--- An attach leads from a state without a binding to one that holds a PPA alone.
+-- An attach leads to a state that holds a PPA alone.
 abbrev pub may_attach : ℕ → ℕ → Bool
-may_attach from to = both (not (has from bound_states)) (both (not (eqb to 0)) (not (has to bound_states)))
+may_attach from to = both (not (eqb from 9)) (both (not (eqb to 0)) (not (has to bound_states)))
 
--- A bind leads from a state that holds a PPA alone to one that holds a binding of either mode.
+-- A bind leads from a state that holds a PPA to one that holds a binding of either mode.
 abbrev pub may_bind : ℕ → ℕ → Bool
-may_bind from to = both (both (not (eqb from 0)) (not (has from bound_states))) (both (has to bound_states) (not (has to connection_states)))
-
--- A further SAP comes or goes in 6, unchanged.
-abbrev pub may_list : ℕ → ℕ → Bool
-may_list from to = both (eqb from 6) (eqb to 6)
+may_bind from to = both (both (not (eqb from 0)) (not (eqb from 9))) (both (has to bound_states) (not (has to connection_states)))
 
 -- A stream with a binding takes an open indication, and is then in 9.
 abbrev pub may_take : ℕ → ℕ → Bool
@@ -59,18 +51,10 @@ abbrev pub fits_staying : StateRow → Bool
 fits_staying x = asks (has x.cause (info_req ∷ token_req ∷ unitdata_req ∷ [])) (either (eqb x.to x.from) (may_lead x.from x.mode (to_state x)))
 
 abbrev movers : List ℕ
-movers = detach_req ∷ connect_req ∷ reset_req ∷ reset_res ∷ peer_accepted ∷ peer_gone ∷ peer_reset ∷ reset_confirmed ∷ []
+movers = detach_req ∷ unbind_req ∷ connect_req ∷ reset_req ∷ reset_res ∷ peer_accepted ∷ peer_gone ∷ peer_reset ∷ reset_confirmed ∷ []
 
 abbrev pub fits_moving : StateRow → Bool
 fits_moving x = asks (has x.cause movers) (may_lead x.from x.mode (to_state x))
-
--- UNBIND_REQ: no further SAP goes along
-abbrev pub fits_unbinding : StateRow → Bool
-fits_unbinding x = asks (eqb x.cause unbind_req) (may_move x.from x.mode (to_state x))
-
--- SUBS_BIND_REQ, SUBS_UNBIND_REQ
-abbrev pub fits_listing : StateRow → Bool
-fits_listing x = asks (has x.cause (subs_bind_req ∷ subs_unbind_req ∷ [])) (may_list x.from (to_state x))
 
 -- DISCONNECT_REQ, elsewhere than in 9
 abbrev pub fits_disconnecting : StateRow → Bool
@@ -95,8 +79,6 @@ fits_losing x = asks (both (has x.cause enders) (eqb x.from 9)) (may_lose (to_st
 pub record RowsFit (rows : List StateRow) : Type 0 where
   pub staying : all_of fits_staying rows ≡ true
   pub moving : all_of fits_moving rows ≡ true
-  pub unbinding : all_of fits_unbinding rows ≡ true
-  pub listing : all_of fits_listing rows ≡ true
   pub disconnecting : all_of fits_disconnecting rows ≡ true
   pub attaching : all_of fits_attaching rows ≡ true
   pub binding : all_of fits_binding rows ≡ true

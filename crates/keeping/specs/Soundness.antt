@@ -1,28 +1,16 @@
 -- A sound table, as facts: what `sound` of the rule paper tests, and what its types cannot say.
-use Rattle.std.specs.Prelude.{ℕ, ◌-◌, ◌≤◌, ◌<◌, ◌^◌, min, ◌≡◌, true, false, List, ◌∷◌, length, get_or, ltb}
+use Rattle.std.specs.Prelude.{ℕ, ◌-◌, ◌≤◌, ◌<◌, ◌^◌, min, ◌≡◌, true, false, List, length, get_or, ltb}
 use Rattle.octets.specs.Runs.{Bytes}
 use Rattle.ledger.specs.Tally.{occ, has}
-use Rattle.paper.specs.Base.{stream_total, most_ppas, mac_size, most_further, form_of, is_in, is_among, bound_states, connection_states, Slot, closed, Table, slot, ppa_numbers, no_ppa}
-use Rattle.paper.specs.Saps.{could_be_bound, as_bind_allows}
+use Rattle.paper.specs.Base.{stream_total, most_ppas, mac_size, is_in, is_among, bound_states, connection_states, Slot, closed, Table, slot, ppa_numbers, no_ppa}
+use Rattle.paper.specs.Saps.{as_bind_allows}
 use Rattle.paper.specs.Correlations.{occurrences}
 use Rattle.paper.specs.Sound.{Bindless, listeners_of}
-use Rattle.paper.specs.declared.Stream.{Stream}
 use Rattle.paper.specs.declared.PpaNumber.{PpaNumber}
 
 -- how often a correlation number may be open: 0 never, and one of four bytes once
 abbrev pub cap : ℕ → ℕ
 cap n = min n (min 1 (2 ^ 32 - n))
-
--- the further SAPs of a stream that stands as s
-pub record Listed (s : Stream) (further : List ℕ) : Type 0 where
-  -- only in 6 and mode 2, at most four
-  pub idle : ltb 0 (length further) ≡ true → is_in 6 s ≡ true
-  pub connectionless : ltb 0 (length further) ≡ true → s.mode ≡ 2
-  pub four : length further ≤ most_further
-  -- each one that a bind could take in the first one's form
-  pub bindable : (n : ℕ) → has n further ≡ true → could_be_bound (form_of s.sap) n ≡ true
-  -- all different and none the first
-  pub once : (n : ℕ) → occ n (s.sap ∷ further) ≤ 1
 
 -- one of the table's streams, where ps are the numbers of its PPAs
 pub record Ok (ps : List ℕ) (x : Slot) : Type 0 where
@@ -39,7 +27,6 @@ pub record Ok (ps : List ℕ) (x : Slot) : Type 0 where
   -- only 9 has open numbers, at least one and at most the granted count
   pub nine : is_in 9 x.stream ≡ ltb 0 (length x.waiting)
   pub few : length x.waiting ≤ x.stream.granted
-  pub listed : Listed x.stream x.further
 
 -- six bytes
 pub record IsMac (mac : List ℕ) : Type 0 where

@@ -51,5 +51,5 @@ fn telling_of(n: u32, by: Excluded) -> u32
 pub fn sap_telling(n: u32) -> u32
     ensures { result ≡ sap_telling n }
 {
-    telling_of(n, paper_saps::excluded_by(n))
+    telling_of(n, paper_rules::excluded_by(n))
 }

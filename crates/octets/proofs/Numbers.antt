@@ -28,10 +28,7 @@ part-be32 c at n k m h e =
       part_byte c at n (k + 3) (m + 3) h (omega arith),
     )
 
--- a number read out of its two or four bytes alone
-pub be16_at-part : (c : List ℕ) (at : ℕ) → be16_at (part c at 2) 0 ≡ be16_at c at
-be16_at-part c at = part-be16 c at 2 0 at (omega arith) (omega arith)
-
+-- a number read out of its four bytes alone
 pub be32_at-part : (c : List ℕ) (at : ℕ) → be32_at (part c at 4) 0 ≡ be32_at c at
 be32_at-part c at = part-be32 c at 4 0 at (omega arith) (omega arith)
 

@@ -47,15 +47,15 @@ module _ {A : Type 0} (f : A → List ℕ) where
           let j : h ++ (joined f l ++ q) ≡ ahead ++ (f (get_or l k d) ++ r) = rw around (simp append_assoc) in
           rw (j, drop_at ahead (f (get_or l k d) ++ r) (k * w + b) ahead_length) (take_at (f (get_or l k d)) r w (g k))
 
-      -- a part of piece k is replaced, which begins so many bytes on
-      pub joined-paste : (x : A) (at : ℕ) (p a c z : List ℕ) → k * w + b + length p ≡ at → f (get_or l k d) ≡ p ++ a ++ z → f x ≡ p ++ c ++ z → length a ≡ length c
-          → paste (h ++ joined f l) at c ≡ h ++ joined f (set l k x)
+      -- the front of piece k is replaced
+      pub joined-paste : (x : A) (a c z : List ℕ) → f (get_or l k d) ≡ a ++ z → f x ≡ c ++ z → length a ≡ length c
+          → paste (h ++ joined f l) (k * w + b) c ≡ h ++ joined f (set l k x)
       unfolding ahead
-      joined-paste x at p a c z i o y m =
+      joined-paste x a c z o y m =
           let q : List ℕ = z ++ joined f (drop (suc k) l) in
-          let s : h ++ joined f l ≡ (ahead ++ p) ++ a ++ q = rw (around, o) (simp append_assoc) in
-          let v : h ++ joined f (set l k x) ≡ (ahead ++ p) ++ c ++ q = rw (set_split l k x n, joined_append f, y) (simp append_assoc) in
-          ap (λ (r : List ℕ). paste r at c) s ∙ paste_middle (ahead ++ p) a c q at (omega (arith, length-append ahead p, ahead_length)) m ∙ sym v
+          let s : h ++ joined f l ≡ ahead ++ a ++ q = rw (around, o) (simp append_assoc) in
+          let v : h ++ joined f (set l k x) ≡ ahead ++ c ++ q = rw (set_split l k x n, joined_append f, y) (simp append_assoc) in
+          ap (λ (r : List ℕ). paste r (k * w + b) c) s ∙ paste_middle ahead a c q (k * w + b) ahead_length m ∙ sym v
 
 -- ---- bytes as pieces
 

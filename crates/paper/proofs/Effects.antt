@@ -51,7 +51,6 @@ error_in (reply.DisconnectInd reason n) = []
 error_in (reply.ResetInd reason) = []
 error_in reply.ResetCon = []
 error_in (reply.UderrorInd error) = error ∷ []
-error_in (reply.SubsBindAck sap) = []
 
 abbrev pub errors_in : List Record → List ℕ
 errors_in [] = []
@@ -81,8 +80,6 @@ service_silent x k s (service.Disconnect reason) = refl
 service_silent x k s service.Reset = refl
 service_silent x k s service.ResetRes = refl
 service_silent x k s (service.Unitdata at form) = refl
-service_silent x k s (service.SubsBind sap) = refl
-service_silent x k s (service.SubsUnbind sap) = refl
 
 pub event_silent : (x : StateRow) (s : Stream) (e : Event) → errors_of (event_effect x s e).up ≡ []
 unfolding event_effect
@@ -110,8 +107,6 @@ service_fits x k s (service.Disconnect reason) = omega arith
 service_fits x k s service.Reset = omega arith
 service_fits x k s service.ResetRes = omega arith
 service_fits x k s (service.Unitdata at form) = omega arith
-service_fits x k s (service.SubsBind sap) = omega arith
-service_fits x k s (service.SubsUnbind sap) = omega arith
 
 pub error_fits : (code : ℕ) (w : Rule) → Fits (error_effect code w)
 error_fits code w = omega arith

@@ -7,17 +7,16 @@ use mathlib.Core.Bool.{Bool, true, false, false≢true}
 use mathlib.Core.List.{List}
 use lib.ListN.{length}
 use lib.Dec.{eqb, ltb, leb}
-use borrow.Author.Tests.{eqb-true, eqb-false, ltb-true, ltb-false, leb-true, leb-false, le-leb, not-true, not-false}
+use borrow.Author.Tests.{eqb-true, eqb-false, ltb-true, ltb-false, le-leb, not-true, not-false}
 use Rattle.ledger.specs.Choice.{pick, both, either, ◌⇒◌∣◌}
 use Rattle.ledger.specs.Tally.{has}
 use Rattle.ledger.proofs.Tallies.{picked, chosen, either_no}
-use Rattle.paper.specs.Base.{length_of, form_of, sap_size, most_further, is_in, Table, slot, stream, waiting, further, knows, address_size}
-use Rattle.paper.specs.Saps.{is_sap, is_type, could_be_bound, grant_of, as_bind_allows, is_listened_for, most_open}
+use Rattle.paper.specs.Base.{length_of, form_of, is_in, Table, slot, stream, waiting, knows, address_size}
+use Rattle.paper.specs.Saps.{is_sap, is_type, grant_of, as_bind_allows, is_listened_for, most_open}
 use Rattle.paper.specs.Messages.{code_in, primitive_of, other_code, sized, read_as, asked_by}
-use Rattle.paper.specs.StateRows.{info_req, bind_req, unbind_req, attach_req, detach_req, connect_req, connect_res, token_req, disconnect_req, reset_req, reset_res, unitdata_req, subs_bind_req, subs_unbind_req}
+use Rattle.paper.specs.StateRows.{info_req, bind_req, unbind_req, attach_req, detach_req, connect_req, connect_res, token_req, disconnect_req, reset_req, reset_res, unitdata_req}
 use Rattle.paper.specs.Sight.{request_asks, carrier_of, answer_to, sight_by, carrier_at}
-use Rattle.paper.specs.Datagrams.{judge_datagram}
-use Rattle.paper.specs.Further.{judge_place, judge_adding, judge_subs_bind, judge_dropping, judge_subs_unbind}
+use Rattle.paper.specs.Datagrams.{could_be_bound, judge_datagram}
 use Rattle.paper.specs.ErrorOrder.{judge_attach, judge_listening, judge_bind, judge_connect, judge_other, judge_itself, judge_carrier, judge_accept, judge_denial, judge_disconnect, judge_request}
 use Rattle.paper.specs.Effects.{bound_in}
 use Rattle.paper.specs.declared.State.{State}
@@ -28,7 +27,6 @@ use Rattle.paper.specs.declared.ConnectRequest.{ConnectRequest}
 use Rattle.paper.specs.declared.ConnectResponse.{ConnectResponse}
 use Rattle.paper.specs.declared.DisconnectRequest.{DisconnectRequest}
 use Rattle.paper.specs.declared.UnitdataRequest.{UnitdataRequest}
-use Rattle.paper.specs.declared.SapPlace.{SapPlace}
 use Rattle.paper.specs.declared.Primitive.{Primitive}
 use Rattle.paper.specs.declared.Primitive.TheVariants as primitive
 use Rattle.paper.specs.declared.Request.{Request}
@@ -89,28 +87,6 @@ pub record MaySend (sap : ℕ) (m : List ℕ) (u : UnitdataRequest) : Type 0 whe
   pub inside : u.offset + u.length ≤ length m
   pub bindable : could_be_bound (form_of sap) u.sap ≡ true
 
--- a further SAP that message m may name past so many bytes, of a stream bound to that first SAP: of the first one's form, within the
--- message, one that a bind could take
-pub record MayName (size sap : ℕ) (m : List ℕ) (p : SapPlace) : Type 0 where
-  pub form : p.length ≡ sap_size (form_of sap)
-  pub behind : size ≤ p.offset
-  pub inside : p.offset + p.length ≤ length m
-  pub bindable : could_be_bound (form_of sap) p.sap ≡ true
-
--- one that stream i may be bound to
-pub record MayAddSap (t : Table) (i : ℕ) (m : List ℕ) (p : SapPlace) (class : ℕ) : Type 0 where
-  pub not_of_connections : eqb (stream t i).mode 1 ≡ false
-  pub peer : class ≡ 1
-  pub named : MayName 16 (stream t i).sap m p
-  pub new : either (eqb p.sap (stream t i).sap) (has p.sap (further t i)) ≡ false
-  pub few : length (further t i) < most_further
-
--- one that it may drop
-pub record MayDropSap (t : Table) (i : ℕ) (m : List ℕ) (p : SapPlace) : Type 0 where
-  pub not_of_connections : eqb (stream t i).mode 1 ≡ false
-  pub named : MayName 12 (stream t i).sap m p
-  pub there : has p.sap (further t i) ≡ true
-
 -- Request q of stream i, in message m, is served so, and stream c carries.
 pub data Fair (t : Table) (i : ℕ) (m : List ℕ) : Request → ℕ → Service → Type 0 where
   informs : Fair t i m request.Info i service.Inform
@@ -132,17 +108,8 @@ pub data Fair (t : Table) (i : ℕ) (m : List ℕ) : Request → ℕ → Service
   resets : Fair t i m request.Reset i service.Reset
   answers_reset : Fair t i m request.ResetRes i service.ResetRes
   sends_data : {u : UnitdataRequest} → MaySend (stream t i).sap m u → Fair t i m (request.Unitdata u) i (service.Unitdata u.offset (form_of (stream t i).sap))
-  adds_sap : {p : SapPlace} {class : ℕ} → MayAddSap t i m p class → Fair t i m (request.SubsBind p class) i (service.SubsBind p.sap)
-  drops_sap : {p : SapPlace} → MayDropSap t i m p → Fair t i m (request.SubsUnbind p) i (service.SubsUnbind p.sap)
 
 -- ---- what a request that a rule fails has shown
-
--- a place that may not name a further SAP
-pub data Misplaced (size sap : ℕ) (p : SapPlace) : Rule → Type 0 where
-  other_size : eqb p.length (sap_size (form_of sap)) ≡ false → Misplaced size sap p rule.FurtherLength
-  named_early : p.offset < size → Misplaced size sap p rule.FurtherTooEarly
-  named_late : p.size < p.offset + p.length → Misplaced size sap p rule.FurtherTooLate
-  unbindable : could_be_bound (form_of sap) p.sap ≡ false → Misplaced size sap p rule.FurtherNotAllowed
 
 -- Rule w fails request q of stream i: it applies. (In step 6 no earlier one does.)
 pub data Faulty (t : Table) (i : ℕ) : Request → Rule → Type 0 where
@@ -182,16 +149,6 @@ pub data Faulty (t : Table) (i : ℕ) : Request → Rule → Type 0 where
   sent_early : {u : UnitdataRequest} → u.offset < 20 → Faulty t i (request.Unitdata u) rule.DatagramTooEarly
   sent_late : {u : UnitdataRequest} → u.size < u.offset + u.length → Faulty t i (request.Unitdata u) rule.DatagramTooLate
   not_bindable : {u : UnitdataRequest} → could_be_bound (form_of (stream t i).sap) u.sap ≡ false → Faulty t i (request.Unitdata u) rule.DatagramSapNotAllowed
-  -- a further SAP
-  adds_in_mode_one : {p : SapPlace} {class : ℕ} → eqb (stream t i).mode 1 ≡ true → Faulty t i (request.SubsBind p class) rule.FurtherInModeOne
-  other_class : {p : SapPlace} {class : ℕ} → eqb class 1 ≡ false → Faulty t i (request.SubsBind p class) rule.FurtherClass
-  adds_misplaced : {p : SapPlace} {class : ℕ} {w : Rule} → Misplaced 16 (stream t i).sap p w → Faulty t i (request.SubsBind p class) w
-  is_there : {p : SapPlace} {class : ℕ} → either (eqb p.sap (stream t i).sap) (has p.sap (further t i)) ≡ true
-      → Faulty t i (request.SubsBind p class) rule.FurtherThere
-  fifth : {p : SapPlace} {class : ℕ} → most_further ≤ length (further t i) → Faulty t i (request.SubsBind p class) rule.FurtherTooMany
-  drops_in_mode_one : {p : SapPlace} → eqb (stream t i).mode 1 ≡ true → Faulty t i (request.SubsUnbind p) rule.FurtherInModeOne
-  drops_misplaced : {p : SapPlace} {w : Rule} → Misplaced 12 (stream t i).sap p w → Faulty t i (request.SubsUnbind p) w
-  absent : {p : SapPlace} → has p.sap (further t i) ≡ false → Faulty t i (request.SubsUnbind p) rule.FurtherAbsent
 
 -- ---- what a bind that may be leaves
 
@@ -222,8 +179,7 @@ bind_unheard {t} {i} {b} h = go (eqb b.mode 1) (eqb b.mode 2) (ltb 0 b.most) ref
     go false true some e l o u g = absurd (omega arith)
     go false false some e l o u g = absurd (false≢true o)
 
--- ---- what a message that asks for a request has shown: its code is the request's, and what names a part of the message was read with
--- the message's size
+-- ---- what a message that asks for a request has shown: its code is the request's, and a connect or a datagram was read with the message's size
 
 abbrev size_read : ℕ → Request → ℕ
 size_read l request.Info = l
@@ -238,8 +194,6 @@ size_read l (request.Disconnect d) = l
 size_read l request.Reset = l
 size_read l request.ResetRes = l
 size_read l (request.Unitdata u) = u.size
-size_read l (request.SubsBind p class) = p.size
-size_read l (request.SubsUnbind p) = p.size
 
 pub record Asks (m : List ℕ) (q : Request) : Type 0 where
   pub coded : code_in m ≡ (request_asks q).cause
@@ -263,8 +217,6 @@ Coded code primitive.Disconnect = code ≡ disconnect_req
 Coded code primitive.Reset = code ≡ reset_req
 Coded code primitive.ResetRes = code ≡ reset_res
 Coded code primitive.Unitdata = code ≡ unitdata_req
-Coded code primitive.SubsBind = code ≡ subs_bind_req
-Coded code primitive.SubsUnbind = code ≡ subs_unbind_req
 Coded code primitive.NotSupported = Unit {0}
 Coded code primitive.NotServed = Unit {0}
 
@@ -275,8 +227,7 @@ coded code =
     chosen P _ _ _ (eqb-true code unbind_req) (λ _. chosen P _ _ _ (eqb-true code bind_req) (λ _. chosen P _ _ _ (eqb-true code connect_req) (λ _.
     chosen P _ _ _ (eqb-true code connect_res) (λ _. chosen P _ _ _ (eqb-true code token_req) (λ _. chosen P _ _ _ (eqb-true code disconnect_req) (λ _.
     chosen P _ _ _ (eqb-true code reset_req) (λ _. chosen P _ _ _ (eqb-true code reset_res) (λ _.
-    chosen P _ _ _ (eqb-true code unitdata_req) (λ _. chosen P _ _ _ (eqb-true code subs_bind_req) (λ _. chosen P _ _ _ (eqb-true code subs_unbind_req) (λ _.
-    chosen P _ _ _ (λ _. tt) (λ _. tt)))))))))))))))
+    chosen P _ _ _ (eqb-true code unitdata_req) (λ _. chosen P _ _ _ (λ _. tt) (λ _. tt)))))))))))))
   where
     P : Primitive → Type 0
     P = Coded code
@@ -299,8 +250,6 @@ module _ (m : List ℕ) where
   reads primitive.Reset c = of_size 4 request.Reset c refl
   reads primitive.ResetRes c = of_size 4 request.ResetRes c refl
   reads primitive.Unitdata c = of_size 20 (request.Unitdata _) c refl
-  reads primitive.SubsBind c = of_size 16 (request.SubsBind _ _) c refl
-  reads primitive.SubsUnbind c = of_size 12 (request.SubsUnbind _) c refl
   reads primitive.NotSupported c = wrong
   reads primitive.NotServed c = wrong
 
@@ -348,20 +297,10 @@ module _ (t : Table) (i : ℕ) (m : List ℕ) where
       _ ⟹ (λ y. not_idle f (not-true _ y)) ∣ (λ n. _ ⟹ (λ y. other_ppa f (not-false _ n) (not-true _ y)) ∣ (λ p. _ ⟹ connectionless f (not-false _ n) ∣ (λ e.
       serves (accepts_on f (record { is_open = o; other = d; idle = not-false _ n; same_ppa = eqb-true _ _ (not-false _ p); not_connectionless = e })))))
 
-  -- where a further SAP may be named, the verdict is the next in the order
-  fair_place : (q : Request) (size : ℕ) (p : SapPlace) (next : Verdict) → p.size ≡ length m → ((w : Rule) → Misplaced size (stream t i).sap p w → Faulty t i q w)
-      → (MayName size (stream t i).sap m p → Judged t i m q i next) → Judged t i m q i (judge_place size (stream t i) p next)
-  unfolding judge_place
-  fair_place q size p next s fault fair =
-      _ ⟹ (λ y. fault _ (other_size (not-true _ y))) ∣ (λ l. _ ⟹ (λ y. fault _ (named_early (ltb-true _ _ y))) ∣ (λ f. _ ⟹ (λ y. fault _ (named_late (ltb-true _ _ y))) ∣ (λ g.
-      _ ⟹ (λ y. fault _ (unbindable (not-true _ y))) ∣ (λ b.
-      let e : p.offset + p.length ≤ p.size = ltb-false _ _ g in
-      fair (record { form = eqb-true _ _ (not-false _ l); behind = ltb-false _ _ f; inside = omega (arith, s); bindable = not-false _ b })))))
-
   -- every verdict on a request that message m asks for, by any row
   pub judged_fairly : (x : StateRow) (q : Request) → Asks m q
       → Judged t i m q (carrier_at i (answer_to t i (At x) (request_asks q).question).carrier) (judge_request (sight_by t i (At x) (request_asks q).question) q)
-  unfolding answer_to judge_request judge_attach judge_bind judge_listening judge_connect judge_accept judge_disconnect judge_denial judge_datagram judge_subs_bind judge_adding judge_subs_unbind judge_dropping
+  unfolding answer_to judge_request judge_attach judge_bind judge_listening judge_connect judge_accept judge_disconnect judge_denial judge_datagram
   judged_fairly x request.Info s = serves informs
   judged_fairly x request.Token s = serves tells_token
   judged_fairly x (request.Attach p) s = _ ⟹ (λ y. unknown_ppa (not-true _ y)) ∣ (λ k. serves (attaches (not-false _ k)))
@@ -389,12 +328,3 @@ module _ (t : Table) (i : ℕ) (m : List ℕ) where
       _ ⟹ (λ y. not_bindable (not-true _ y)) ∣ (λ b.
       let e : u.offset + u.length ≤ u.size = ltb-false _ _ g in
       serves (sends_data (record { form = eqb-true _ _ (not-false _ l); behind = ltb-false _ _ f; inside = omega (arith, s.measured); bindable = not-false _ b }))))))
-  judged_fairly x (request.SubsBind p class) s =
-      _ ⟹ adds_in_mode_one ∣ (λ c. _ ⟹ (λ y. other_class (not-true _ y)) ∣ (λ k.
-      fair_place (request.SubsBind p class) 16 p (judge_adding (stream t i) p.sap (has p.sap (further t i)) (length (further t i))) s.measured (λ w. adds_misplaced) (λ n.
-      _ ⟹ is_there ∣ (λ a. _ ⟹ (λ y. fifth (leb-true _ _ y)) ∣ (λ f.
-      serves (adds_sap (record { not_of_connections = c; peer = eqb-true _ _ (not-false _ k); named = n; new = a; few = leb-false _ _ f })))))))
-  judged_fairly x (request.SubsUnbind p) s =
-      _ ⟹ drops_in_mode_one ∣ (λ c.
-      fair_place (request.SubsUnbind p) 12 p (judge_dropping p.sap (has p.sap (further t i))) s.measured (λ w. drops_misplaced) (λ n.
-      _ ⟹ (λ y. absent (not-true _ y)) ∣ (λ h. serves (drops_sap (record { not_of_connections = c; named = n; there = not-false _ h })))))

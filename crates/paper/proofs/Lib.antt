@@ -19,5 +19,4 @@ pub mod SoundTests
 pub mod StateTable
 pub mod RowFound
 pub mod Fair
-pub mod SapPlaces
 pub mod Walk

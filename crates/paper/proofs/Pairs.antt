@@ -29,7 +29,7 @@ use Rattle.paper.specs.declared.Request.TheVariants as request
 use Rattle.paper.specs.declared.UnitdataRequest.{UnitdataRequest}
 
 -- a field of the message is that of the record, so its code is
-pub field_in : (r : List ℕ) (l at : ℕ) → at + 4 ≤ l → be32_at (message_in r l) at ≡ be32_at r (head_size + at)
+field_in : (r : List ℕ) (l at : ℕ) → at + 4 ≤ l → be32_at (message_in r l) at ≡ be32_at r (head_size + at)
 field_in r l at h = rw (part_byte r head_size l at (head_size + at) (omega arith) refl, byte 1 (omega arith), byte 2 (omega arith), byte 3 (omega arith))
   where
     byte : (k : ℕ) → k < 4 → get_or (message_in r l) (at + k) 0 ≡ get_or r (head_size + at + k) 0

@@ -8,9 +8,7 @@ use borrow.Author.Tests.{eqb-true, ltb-true, leb-true}
 use Rattle.ledger.specs.Choice.{either, both}
 use Rattle.ledger.proofs.Tallies.{of_either, both_of}
 use Rattle.ledger.specs.Tally.{has, one_if}
-use Rattle.paper.specs.Saps.{most_open, is_sap, is_type, could_be_bound, reserved_types, as_bind_allows, listens}
-use Rattle.paper.specs.declared.Form.{Form}
-use Rattle.paper.specs.declared.Form.TheVariants.{WithSap, WithType}
+use Rattle.paper.specs.Saps.{most_open, is_sap, is_type, reserved_types, as_bind_allows, listens}
 use Rattle.paper.specs.declared.Stream.{Stream}
 use Rattle.paper.specs.declared.PpaNumber.{PpaNumber}
 
@@ -30,12 +28,6 @@ type_under n e =
 
 pub sap-fits : (n : ℕ) → either (is_sap n) (is_type n) ≡ true → n < 65536
 sap-fits n h = of_either (is_sap n) (is_type n) h (sap-under n) (type_under n)
-
--- in either form
-pub bindable-small : (form : Form) (n : ℕ) → could_be_bound form n ≡ true → n < 65536
-unfolding could_be_bound
-bindable-small WithSap n h = sap-under n h
-bindable-small WithType n h = type_under n h
 
 -- so those of a stream that is bound as BIND allows are small
 pub record Small (s : Stream) : Type 0 where

@@ -16,7 +16,7 @@ use Rattle.paper.specs.Replies.{info_of, fields_of, unitdata_fields, content_of,
 use Rattle.paper.specs.declared.Form.{Form}
 use Rattle.paper.specs.declared.Stream.{Stream}
 use Rattle.paper.specs.declared.Reply.{Reply}
-use Rattle.paper.specs.declared.Reply.TheVariants.{InfoAck, BindAck, ErrorAck, OkAck, ConnectInd, ConnectCon, TokenAck, DisconnectInd, ResetInd, ResetCon, UderrorInd, SubsBindAck}
+use Rattle.paper.specs.declared.Reply.TheVariants.{InfoAck, BindAck, ErrorAck, OkAck, ConnectInd, ConnectCon, TokenAck, DisconnectInd, ResetInd, ResetCon, UderrorInd}
 
 -- unbound and bound, INFO_ACK has its 18 fields
 info_length : (s : Stream) → length (info_of s) ≡ 18
@@ -36,7 +36,6 @@ fields_few (DisconnectInd reason n) = omega arith
 fields_few (ResetInd reason) = omega arith
 fields_few ResetCon = omega arith
 fields_few (UderrorInd error) = omega arith
-fields_few (SubsBindAck sap) = omega arith
 
 -- the fields, and the addresses that the size counts
 fields_size : (r : Reply) → length (fields_of r) * 4 + address_bytes r ≡ reply_size r
@@ -51,7 +50,6 @@ fields_size (DisconnectInd reason n) = refl
 fields_size (ResetInd reason) = refl
 fields_size ResetCon = refl
 fields_size (UderrorInd error) = refl
-fields_size (SubsBindAck sap) = refl
 
 -- L is the size and the bytes beyond it: what stands behind the fields, less the addresses that the size counts
 pub reply_size_lem : (r : Reply) (tail : List ℕ) → length (content_of r tail) + address_bytes r ≡ reply_size r + length tail

@@ -5,10 +5,10 @@ use mathlib.Core.Path.{◌≡◌, refl}
 use mathlib.Core.Bool.{true, false}
 use mathlib.Core.List.{List, [], ◌∷◌, map}
 use lib.ListN.{replicate}
-use Rattle.paper.specs.Base.{form_of, Slot, closed, Table, fresh}
+use Rattle.paper.specs.Base.{Slot, closed, Table, fresh}
 use Rattle.paper.specs.Correlations.{occurrences}
 use Rattle.paper.specs.Examples.{ppa, stream_zero, none_opened, unattached, attached, bound_stream, connecting, ringing}
-use Rattle.paper.specs.Saps.{is_sap, is_type, could_be_bound, as_bind_allows, listens}
+use Rattle.paper.specs.Saps.{is_sap, is_type, as_bind_allows, listens}
 use Rattle.paper.specs.Sound.{holds_nothing, sound_slot, is_single, is_alone, sound}
 use Rattle.paper.specs.declared.Ppa.{Ppa}
 use Rattle.paper.specs.declared.State.{State}
@@ -26,12 +26,7 @@ abbrev two_streams : Slot → Slot → Table
 two_streams x y = record { remembers = true; counter = 9; ppas = ppa ∷ []; slots = x ∷ y ∷ replicate 14 closed }
 
 abbrev ringing_on : ℕ → List ℕ → Slot
-ringing_on sap waiting = record { is_open = true; stream = holding InconPending 1 sap 1 2; waiting = waiting; further = [] }
-
--- one stream, of PPA 1, with further SAPs
-abbrev listening : State → ℕ → ℕ → List ℕ → Table
-listening state mode sap further =
-    record { remembers = true; counter = 1; ppas = ppa ∷ []; slots = record { is_open = true; stream = holding state mode sap 1 0; waiting = []; further = further } ∷ replicate 15 closed }
+ringing_on sap waiting = record { is_open = true; stream = holding InconPending 1 sap 1 2; waiting = waiting }
 
 abbrev broken : List Table
 broken =
@@ -39,8 +34,7 @@ broken =
     with_ppas (ppa ∷ ppa ∷ [])
     ∷ with_ppas (map (λ (n : ℕ). record { number = record { 0 = n }; mac = replicate 6 2 }) (1 ∷ 2 ∷ 3 ∷ 4 ∷ 5 ∷ 6 ∷ 7 ∷ 8 ∷ 9 ∷ []))
     -- a closed stream holds nothing
-    ∷ two_streams (record { is_open = false; stream = holding Unbound 0 0 1 0; waiting = []; further = [] }) closed
-    ∷ two_streams (record { is_open = false; stream = holding Unattached 0 0 0 0; waiting = []; further = 0x84 ∷ [] }) closed
+    ∷ two_streams (record { is_open = false; stream = holding Unbound 0 0 1 0; waiting = [] }) closed
     -- an open one is attached to a PPA of the table except in 0
     ∷ stream_zero 1 (holding Unbound 0 0 2 0) []
     ∷ stream_zero 1 (holding Unattached 0 0 1 0) []
@@ -65,20 +59,7 @@ broken =
     -- no two streams listen for one PPA and SAP
     ∷ two_streams (ringing_on 0x80 (1 ∷ [])) (ringing_on 0x80 (2 ∷ []))
     -- a table with an open stream remembers an opening
-    ∷ record { remembers = false; counter = 1; ppas = []; slots = record { is_open = true; stream = holding Unattached 0 0 0 0; waiting = []; further = [] } ∷ replicate 15 closed }
-    -- further SAPs only in 6 and mode 2
-    ∷ listening Unbound 0 0 (0x84 ∷ [])
-    ∷ listening Idle 1 0x80 (0x84 ∷ [])
-    ∷ listening OutconPending 1 0x80 (0x84 ∷ [])
-    -- at most four
-    ∷ listening Idle 2 0x80 (0x82 ∷ 0x84 ∷ 0x86 ∷ 0x88 ∷ 0x8a ∷ [])
-    -- of the first one's form, each one that a bind could take
-    ∷ listening Idle 2 0x80 (0x800 ∷ [])
-    ∷ listening Idle 2 0x800 (0x84 ∷ [])
-    ∷ listening Idle 2 0x80 (0x06 ∷ [])
-    -- all different and none the first
-    ∷ listening Idle 2 0x80 (0x84 ∷ 0x84 ∷ [])
-    ∷ listening Idle 2 0x80 (0x84 ∷ 0x80 ∷ [])
+    ∷ record { remembers = false; counter = 1; ppas = []; slots = record { is_open = true; stream = holding Unattached 0 0 0 0; waiting = [] } ∷ replicate 15 closed }
     ∷ []
 
 abbrev sound_ones : List Table
@@ -92,16 +73,14 @@ sound_ones =
     ∷ connecting
     ∷ ringing 3 (1 ∷ 2 ∷ [])
     ∷ two_streams (ringing_on 0x80 (1 ∷ [])) (ringing_on 0x84 (2 ∷ []))
-    ∷ listening Idle 2 0x80 (0x82 ∷ 0x84 ∷ 0x86 ∷ 0 ∷ [])
-    ∷ listening Idle 2 0x800 (0x806 ∷ [])
     -- the counter may stand anywhere, and a table may remember an opening with every stream closed again
     ∷ two_streams closed closed
     ∷ []
 
-pub broken_are_unsound : map sound broken ≡ replicate 30 false
-unfolding sound sound_slot holds_nothing is_single is_alone occurrences listens could_be_bound form_of as_bind_allows is_sap is_type
+pub broken_are_unsound : map sound broken ≡ replicate 20 false
+unfolding sound sound_slot holds_nothing is_single is_alone occurrences listens as_bind_allows is_sap is_type
 broken_are_unsound = refl
 
-pub whole_are_sound : map sound sound_ones ≡ replicate 12 true
-unfolding sound sound_slot holds_nothing is_single is_alone occurrences listens could_be_bound form_of as_bind_allows is_sap is_type
+pub whole_are_sound : map sound sound_ones ≡ replicate 10 true
+unfolding sound sound_slot holds_nothing is_single is_alone occurrences listens as_bind_allows is_sap is_type
 whole_are_sound = refl

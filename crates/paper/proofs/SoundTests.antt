@@ -28,17 +28,15 @@ no_bind s h = record {
 
 -- one that holds nothing, open or not
 abbrev empty_slot : Bool → Slot
-empty_slot b = record { is_open = b; stream = no_stream; waiting = []; further = [] }
+empty_slot b = record { is_open = b; stream = no_stream; waiting = [] }
 
 pub holds_nothing_lem : (x : Slot) → holds_nothing x ≡ true → x ≡ empty_slot x.is_open
 unfolding holds_nothing
 holds_nothing_lem x h =
     let s : Stream = x.stream in
-    let lists : Bool = both (eqb (length x.waiting) 0) (eqb (length x.further) 0) in
-    let a = both_of (is_in 0 s) (both (eqb s.ppa.0 0) (both (every (unbound s)) lists)) h in
-    let b = both_of (eqb s.ppa.0 0) (both (every (unbound s)) lists) a.1 in
-    let c = both_of (every (unbound s)) lists b.1 in
-    let l = both_of (eqb (length x.waiting) 0) (eqb (length x.further) 0) c.1 in
+    let a = both_of (is_in 0 s) (both (eqb s.ppa.0 0) (both (every (unbound s)) (eqb (length x.waiting) 0))) h in
+    let b = both_of (eqb s.ppa.0 0) (both (every (unbound s)) (eqb (length x.waiting) 0)) a.1 in
+    let c = both_of (every (unbound s)) (eqb (length x.waiting) 0) b.1 in
     let z = no_bind s c.0 in
     λ d. record {
       is_open = x.is_open;
@@ -49,8 +47,7 @@ holds_nothing_lem x h =
         ppa = record { 0 = eqb-true s.ppa.0 0 b.0 d };
         granted = z.granted d;
       };
-      waiting = empty x.waiting (eqb-true (length x.waiting) 0 l.0) d;
-      further = empty x.further (eqb-true (length x.further) 0 l.1) d;
+      waiting = empty x.waiting (eqb-true (length x.waiting) 0 c.1) d;
     }
 
 pub closed_is : (x : Slot) → holds_nothing x ≡ true → x.is_open ≡ false → x ≡ closed

@@ -6,7 +6,7 @@ use lib.Dec.{eqb}
 use Rattle.ledger.specs.Choice.{pick, both}
 use Rattle.ledger.specs.Tally.{one_if, has, sum_of, all_of}
 use Rattle.paper.specs.Base.{every_state}
-use Rattle.paper.specs.StateRows.{info_req, bind_req, unbind_req, attach_req, detach_req, connect_req, connect_res, token_req, disconnect_req, reset_req, reset_res, unitdata_req, subs_bind_req, subs_unbind_req, call_arrives, peer_accepted}
+use Rattle.paper.specs.StateRows.{info_req, bind_req, unbind_req, attach_req, detach_req, connect_req, connect_res, token_req, disconnect_req, reset_req, reset_res, unitdata_req, call_arrives, peer_accepted}
 use Rattle.paper.specs.StateRows.{peer_gone, call_withdrawn, peer_reset, reset_confirmed, frame_arrives, Seat, seat, seats, leads, loses, stays, state_rows, is_row}
 use Rattle.paper.specs.declared.StateRow.{StateRow}
 
@@ -37,8 +37,8 @@ by_state =
     (in_each_state (seat 0 0) ++ (leads attach_req 0 0 3 ∷ []))
     ∷ (in_each_state (seat 3 0) ++ (leads detach_req 0 3 0 ∷ leads bind_req 0 3 6 ∷ []))
     -- 6, in mode 1 and in mode 2
-    ∷ (in_each_state (seat 6 1) ++ (leads unbind_req 1 6 3 ∷ leads connect_req 1 6 8 ∷ leads call_arrives 1 6 9 ∷ leads subs_bind_req 1 6 6 ∷ leads subs_unbind_req 1 6 6 ∷ []))
-    ∷ (in_each_state (seat 6 2) ++ (leads unbind_req 2 6 3 ∷ leads unitdata_req 2 6 6 ∷ leads frame_arrives 2 6 6 ∷ leads subs_bind_req 2 6 6 ∷ leads subs_unbind_req 2 6 6 ∷ []))
+    ∷ (in_each_state (seat 6 1) ++ (leads unbind_req 1 6 3 ∷ leads connect_req 1 6 8 ∷ leads call_arrives 1 6 9 ∷ []))
+    ∷ (in_each_state (seat 6 2) ++ (leads unbind_req 2 6 3 ∷ leads unitdata_req 2 6 6 ∷ leads frame_arrives 2 6 6 ∷ []))
     -- 8: a connection is asked for
     ∷ (in_each_state (seat 8 1) ++ (leads disconnect_req 1 8 6 ∷ leads peer_accepted 1 8 11 ∷ leads peer_gone 1 8 6 ∷ []))
     -- 9: indications are open

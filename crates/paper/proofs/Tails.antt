@@ -63,4 +63,3 @@ module _ (mac : List ℕ) (six : length mac ≡ mac_size) where
   tail_most m (reply.ResetInd reason) = omega arith
   tail_most m reply.ResetCon = omega arith
   tail_most m (reply.UderrorInd error) = omega arith
-  tail_most m (reply.SubsBindAck sap) = omega (arith, sap-most sap)

@@ -99,23 +99,17 @@ in_state q s = record { state = q; mode = s.mode; sap = s.sap; ppa = s.ppa; gran
 abbrev pub settled : State → Stream → Stream
 settled q s = pick (eqb (number_of q) 0) no_stream (pick (has (number_of q) bound_states) (in_state q s) (attached_in q s.ppa))
 
--- One of the table's streams: open or not, how it stands, the numbers of its open indications, oldest first, and its further
--- SAPs, in the order of their binding (document 02).
+-- One of the table's streams: open or not, how it stands, and the numbers of its open indications, oldest first.
 pub record Slot : Type 0 where
   pub is_open : Bool
   pub stream : Stream
   pub waiting : List ℕ
-  pub further : List ℕ
 
 abbrev pub closed : Slot
-closed = record { is_open = false; stream = no_stream; waiting = []; further = [] }
+closed = record { is_open = false; stream = no_stream; waiting = [] }
 
 abbrev pub just_opened : Slot
-just_opened = record { is_open = true; stream = no_stream; waiting = []; further = [] }
-
--- the SAPs that it is bound to, the first one first
-abbrev pub bound_to : Slot → List ℕ
-bound_to x = x.stream.sap ∷ x.further
+just_opened = record { is_open = true; stream = no_stream; waiting = [] }
 
 -- A table has 16 streams, numbered 0 to 15, and at most 8 PPAs, each with a 4-byte number and a 6-byte MAC.
 abbrev pub stream_total : ℕ
@@ -126,10 +120,6 @@ most_ppas = 8
 
 abbrev pub mac_size : ℕ
 mac_size = 6
-
--- up to four further SAPs beside the first (document 02)
-abbrev pub most_further : ℕ
-most_further = 4
 
 -- an address as c, I and A have it: the MAC, then 1 byte of SAP
 abbrev pub address_size : ℕ
@@ -151,14 +141,6 @@ form_in n = pick (eqb n most_address) WithType WithSap
 unfoldable pub form_of : ℕ → Form
 form_of sap = pick (ltb sap 256) WithSap WithType
 
--- A SAP alone (document 02) has 1 byte, a type 2.
-abbrev pub sap_size : Form → ℕ
-sap_size WithSap = 1
-sap_size WithType = 2
-
-unfoldable pub form_alone : ℕ → Form
-form_alone n = pick (eqb n 2) WithType WithSap
-
 -- A table remembers whether a stream was ever opened, and has one counter for correlation numbers.
 pub record Table : Type 0 where
   pub remembers : Bool
@@ -179,9 +161,6 @@ stream t i = (slot t i).stream
 
 abbrev pub waiting : Table → ℕ → List ℕ
 waiting t i = (slot t i).waiting
-
-abbrev pub further : Table → ℕ → List ℕ
-further t i = (slot t i).further
 
 -- Opening takes the lowest free stream; a closed stream is free again. (16 where none is free.)
 unfoldable pub lowest_free : Table → ℕ
@@ -214,15 +193,11 @@ with_slot t i x = record { remembers = t.remembers; counter = t.counter; ppas = 
 
 -- a stream and its open numbers
 unfoldable pub with_numbers : Table → ℕ → Stream → List ℕ → Table
-with_numbers t i s w = with_slot t i (record { is_open = (slot t i).is_open; stream = s; waiting = w; further = further t i })
+with_numbers t i s w = with_slot t i (record { is_open = (slot t i).is_open; stream = s; waiting = w })
 
 -- a stream alone
 unfoldable pub with_stream : Table → ℕ → Stream → Table
 with_stream t i s = with_numbers t i s (waiting t i)
-
--- its further SAPs
-unfoldable pub with_further : Table → ℕ → List ℕ → Table
-with_further t i f = with_slot t i (record { is_open = (slot t i).is_open; stream = stream t i; waiting = waiting t i; further = f })
 
 unfoldable pub with_counter : Table → ℕ → Table
 with_counter t n = record { remembers = t.remembers; counter = n; ppas = t.ppas; slots = t.slots }

@@ -1,25 +1,31 @@
 -- Document 02, connectionless traffic: the tests of a datagram's address, and the streams that a frame comes to.
 use Rattle.std.specs.Prelude.{ℕ, zero, suc, ◌+◌, Bool, not, List, [], ◌∷◌, ◌++◌, take, eqb, ltb}
 use Rattle.ledger.specs.Choice.{pick, both, ◌⇒◌∣◌}
-use Rattle.ledger.specs.Tally.{has}
 use Rattle.ledger.specs.Lists.{joined}
 use Rattle.octets.specs.Runs.{same_bytes}
-use Rattle.paper.specs.Base.{stream_total, mac_size, length_of, form_of, Slot, bound_to, Table, slot, knows, mac_of}
+use Rattle.paper.specs.Base.{stream_total, mac_size, length_of, form_of, Slot, Table, slot, knows, mac_of}
 use Rattle.paper.specs.RecordsIn.{most_data, frame_called_in, frame_calling_in, frame_data_in}
 use Rattle.paper.specs.RecordsOut.{Record, unitdata, datum}
 use Rattle.paper.specs.Refusals.{over_long, nobody_there, Outcome, refused, served}
-use Rattle.paper.specs.Saps.{could_be_bound}
+use Rattle.paper.specs.Saps.{is_sap, is_type}
 use Rattle.paper.specs.StateRows.{frame_arrives, found, is_found}
 use Rattle.paper.specs.declared.Stream.{Stream}
 use Rattle.paper.specs.declared.StateRow.{StateRow}
 use Rattle.paper.specs.declared.UnitdataRequest.{UnitdataRequest}
 use Rattle.paper.specs.declared.Frame.{Frame}
+use Rattle.paper.specs.declared.Form.{Form}
+use Rattle.paper.specs.declared.Form.TheVariants.{WithSap, WithType}
 use Rattle.paper.specs.declared.Rule.TheVariants as rule
 use Rattle.paper.specs.declared.Service.TheVariants as service
 use Rattle.paper.specs.declared.Verdict.{Verdict}
 use Rattle.paper.specs.declared.Verdict.TheVariants.{Serves, Fails}
 
 -- ---- a datagram
+
+-- a SAP that a bind could take: in that form one byte is a SAP, two bytes are a type
+unfoldable pub could_be_bound : Form → ℕ → Bool
+could_be_bound WithSap sap = is_sap sap
+could_be_bound WithType sap = is_type sap
 
 -- BADADDR: not the stream's own form, offset under 20, outside the message (the sum does not wrap), or a SAP no bind could
 -- take.
@@ -33,16 +39,14 @@ judge_datagram s u =
 
 -- ---- a frame
 
--- Each mode 2 stream of that PPA bound to its SAP: one with a state row for frames, bound to that number, as its first SAP or a
--- further one, in that form.
-unfoldable pub is_for : List StateRow → Frame → Slot → Bool
-is_for rows f x =
-    both (is_found (found rows x.stream frame_arrives))
-    (both (eqb x.stream.ppa.0 f.ppa.0)
-    (both (has f.sap (bound_to x)) (eqb (length_of (form_of x.stream.sap)) (length_of f.form))))
+-- Each mode 2 stream of that PPA bound to its SAP: one with a state row for frames, bound to that number in that form.
+unfoldable pub is_for : List StateRow → Frame → Stream → Bool
+is_for rows f s =
+    both (is_found (found rows s frame_arrives))
+    (both (eqb s.ppa.0 f.ppa.0) (both (eqb s.sap f.sap) (eqb (length_of (form_of s.sap)) (length_of f.form))))
 
 unfoldable pub is_shown : List StateRow → Frame → Slot → Bool
-is_shown rows f x = both x.is_open (is_for rows f x)
+is_shown rows f x = both x.is_open (is_for rows f x.stream)
 
 -- of the first n streams those that it is shown to, in stream order
 abbrev pub shown_below : List StateRow → Table → Frame → ℕ → List ℕ

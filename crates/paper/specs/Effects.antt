@@ -5,9 +5,9 @@ use Rattle.ledger.specs.Choice.{pick}
 use Rattle.ledger.specs.Tally.{without}
 use Rattle.octets.specs.Runs.{part}
 use Rattle.octets.specs.Blocks.{pad_to}
-use Rattle.paper.specs.Base.{address_size, most_address, length_of, state_of, is_in, is_among, joined_states, attached_in, settled, Slot, Table, stream, waiting, further, with_numbers, with_stream, with_further, with_counter}
+use Rattle.paper.specs.Base.{address_size, most_address, length_of, state_of, is_in, is_among, joined_states, attached_in, settled, Slot, Table, stream, waiting, with_numbers, with_stream, with_counter}
 use Rattle.paper.specs.RecordsIn.{block_in, address_in, called_in, calling_in, data_in}
-use Rattle.paper.specs.Replies.{sap_bytes, address_of, info_tail}
+use Rattle.paper.specs.Replies.{address_of, info_tail}
 use Rattle.paper.specs.RecordsOut.{Record, order, up, datum, flush_if, in_order}
 use Rattle.paper.specs.Correlations.{one_past}
 use Rattle.paper.specs.ErrorCodes.{complaint_of, reply_by}
@@ -24,7 +24,7 @@ use Rattle.paper.specs.declared.StateRow.{StateRow}
 use Rattle.paper.specs.declared.Event.{Event}
 use Rattle.paper.specs.declared.Event.TheVariants as event
 use Rattle.paper.specs.declared.Change.{Change}
-use Rattle.paper.specs.declared.Change.TheVariants.{Stays, Becomes, Takes, Loses, Adds, Drops, Unbinds}
+use Rattle.paper.specs.declared.Change.TheVariants.{Stays, Becomes, Takes, Loses}
 use Rattle.paper.specs.declared.LineOrder.{LineOrder}
 use Rattle.paper.specs.declared.LineOrder.TheVariants as line_order
 use Rattle.paper.specs.declared.Telling.{Telling}
@@ -48,9 +48,6 @@ changed t i Stays = t
 changed t i (Becomes s) = with_stream t i s
 changed t i (Takes s n) = with_numbers (with_counter t (one_past n.0)) i s (waiting t i ++ (n.0 ∷ []))
 changed t i (Loses s n last) = with_numbers t i (standing last s (without n.0 (waiting t i))) (without n.0 (waiting t i))
-changed t i (Adds s sap) = with_stream (with_further t i (further t i ++ (sap ∷ []))) i s
-changed t i (Drops s sap) = with_stream (with_further t i (without sap (further t i))) i s
-changed t i (Unbinds s) = with_stream (with_further t i []) i s
 
 -- The carrying stream goes to 11.
 unfoldable pub carried : Table → ℕ → Bool → Table
@@ -109,7 +106,6 @@ behind_reply mac r (reply.DisconnectInd reason n) = []
 behind_reply mac r (reply.ResetInd reason) = []
 behind_reply mac r reply.ResetCon = []
 behind_reply mac r (reply.UderrorInd error) = []
-behind_reply mac r (reply.SubsBindAck sap) = sap_bytes sap
 
 unfoldable pub ups_in : ℕ → List ℕ → List ℕ → Saying → List Record
 ups_in i mac r Unsaid = []
@@ -153,7 +149,7 @@ acting c o f u = record { change = c; carries = false; order = o; flush = f; up 
 abbrev pub error_effect : ℕ → Rule → Effect
 error_effect code r = acting Stays Untold false (Says (reply_by code (complaint_of r)))
 
--- A request with a reply gets INFO_ACK, BIND_ACK, TOKEN_ACK, SUBS_BIND_ACK (document 02) or else OK_ACK, which has the request's code: the row's cause.
+-- A request with a reply gets INFO_ACK, BIND_ACK, TOKEN_ACK or else OK_ACK, which has the request's code: the row's cause.
 abbrev pub ok : StateRow → Saying
 ok x = Says (reply.OkAck x.cause)
 
@@ -172,8 +168,8 @@ effect_of x k s (service.Attach p) = acting (Becomes (attached_in (next x) p)) U
 effect_of x k s service.Detach = acting (onward x s) Untold false (ok x)
 effect_of x k s (service.Bind mode sap granted) =
     acting (Becomes (bound_in (next x) s.ppa mode sap granted)) Untold false (Says (reply.BindAck sap granted))
--- with F; it drops all further SAPs (document 02)
-effect_of x k s service.Unbind = acting (Unbinds (settled (next x) s)) Untold true (ok x)
+-- with F
+effect_of x k s service.Unbind = acting (onward x s) Untold true (ok x)
 -- c, no reply
 effect_of x k s (service.Connect at) = acting (onward x s) (Tells (line_order.Connect at)) false Unsaid
 -- a
@@ -187,9 +183,6 @@ effect_of x k s service.Reset = acting (onward x s) (Tells line_order.Reset) fal
 effect_of x k s service.ResetRes = acting (onward x s) (Tells line_order.ResetAnswer) false (ok x)
 -- u and its M, no reply
 effect_of x k s (service.Unitdata at form) = acting (unchanged x s) (Tells (line_order.Unitdata at form)) false Unsaid
--- a further SAP: SUBS_BIND_ACK; OK_ACK
-effect_of x k s (service.SubsBind sap) = acting (Adds (settled (next x) s) sap) Untold false (Says (reply.SubsBindAck sap))
-effect_of x k s (service.SubsUnbind sap) = acting (Drops (settled (next x) s) sap) Untold false (ok x)
 
 -- What the line brings to a stream that stands as s, by row x.
 unfoldable pub event_effect : StateRow → Stream → Event → Effect

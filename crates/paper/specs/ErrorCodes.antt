@@ -39,10 +39,6 @@ bound = 0x0d
 abbrev pub not_supported : ℕ
 not_supported = 0x12
 
--- document 02
-abbrev pub too_many : ℕ
-too_many = 0x13
-
 abbrev pub no_auto : ℕ
 no_auto = 0x16
 
@@ -87,16 +83,6 @@ complaint_of rule.DatagramLength = uderror_ind bad_addr
 complaint_of rule.DatagramTooEarly = uderror_ind bad_addr
 complaint_of rule.DatagramTooLate = uderror_ind bad_addr
 complaint_of rule.DatagramSapNotAllowed = uderror_ind bad_addr
--- of a further SAP
-complaint_of rule.FurtherInModeOne = error_ack unsupported
-complaint_of rule.FurtherClass = error_ack unsupported
-complaint_of rule.FurtherLength = error_ack bad_addr
-complaint_of rule.FurtherTooEarly = error_ack bad_addr
-complaint_of rule.FurtherTooLate = error_ack bad_addr
-complaint_of rule.FurtherNotAllowed = error_ack bad_addr
-complaint_of rule.FurtherThere = error_ack bad_addr
-complaint_of rule.FurtherAbsent = error_ack bad_addr
-complaint_of rule.FurtherTooMany = error_ack too_many
 
 abbrev pub error_by : Complaint → ℕ
 error_by (error_ack n) = n

@@ -6,7 +6,6 @@ use Rattle.paper.specs.Base.{address_size, is_in, Table}
 use Rattle.paper.specs.Saps.{is_sap, is_type, grant_of}
 use Rattle.paper.specs.Messages.{code_in}
 use Rattle.paper.specs.Datagrams.{judge_datagram}
-use Rattle.paper.specs.Further.{judge_subs_bind, judge_subs_unbind}
 use Rattle.paper.specs.Sight.{sends, Sight, sight_of}
 use Rattle.paper.specs.declared.Correlation.{Correlation}
 use Rattle.paper.specs.declared.PpaNumber.{PpaNumber}
@@ -31,7 +30,7 @@ use Rattle.paper.specs.declared.Verdict.{Verdict}
 use Rattle.paper.specs.declared.Verdict.TheVariants.{Serves, Fails}
 
 -- 1. Another code than a served request's, or L under the size: `asked_by` (Messages). 2. No state row: `verdict_by`, below.
--- A datagram's address: `judge_datagram` (Datagrams). A further SAP: `judge_subs_bind`, `judge_subs_unbind` (Further).
+-- A datagram's address: `judge_datagram` (Datagrams).
 
 -- 3. ATTACH: unknown PPA, BADPPA.
 unfoldable pub judge_attach : PpaNumber → Bool → Verdict
@@ -101,7 +100,7 @@ judge_disconnect s d number_open =
     ∣ not (eqb d.correlation.0 0) ⇒ Fails rule.NumberNotZero
     ∣ Serves (service.Disconnect d.reason)
 
--- Steps 3 to 7, and those of document 02, by the request: what each reads of its sight stands beside it.
+-- Steps 3 to 7, and a datagram's (document 02), by the request: what each reads of its sight stands beside it.
 unfoldable pub judge_request : Sight → Request → Verdict
 judge_request s request.Info = Serves service.Inform
 judge_request s request.Token = Serves service.TellToken
@@ -116,9 +115,6 @@ judge_request s (request.Disconnect d) = judge_disconnect s.own.stream d (has d.
 judge_request s request.Reset = Serves service.Reset
 judge_request s request.ResetRes = Serves service.ResetRes
 judge_request s (request.Unitdata u) = judge_datagram s.own.stream u
-judge_request s (request.SubsBind p class) =
-    judge_subs_bind s.own.stream p class (has p.sap s.own.further) (length s.own.further)
-judge_request s (request.SubsUnbind p) = judge_subs_unbind s.own.stream p (has p.sap s.own.further)
 
 -- 2. No state row. (Of a datagram it is a rule of its own.)
 unfoldable pub without_row : Request → Rule
@@ -134,8 +130,6 @@ without_row (request.Disconnect d) = rule.NoRow
 without_row request.Reset = rule.NoRow
 without_row request.ResetRes = rule.NoRow
 without_row (request.Unitdata u) = rule.DatagramNoRow
-without_row (request.SubsBind p class) = rule.NoRow
-without_row (request.SubsUnbind p) = rule.NoRow
 
 -- The order of errors as a whole, on a message: the first rule that applies, or what serves it. (The last argument is the
 -- sight's row.)

@@ -103,7 +103,7 @@ none_opened = record { remembers = false; counter = 1; ppas = ppa ∷ []; slots 
 -- the counter, how stream 0 stands, its open indications
 abbrev pub stream_zero : ℕ → Stream → List ℕ → Table
 stream_zero counter s waiting =
-    record { remembers = true; counter = counter; ppas = ppa ∷ []; slots = record { is_open = true; stream = s; waiting = waiting; further = [] } ∷ replicate 15 closed }
+    record { remembers = true; counter = counter; ppas = ppa ∷ []; slots = record { is_open = true; stream = s; waiting = waiting } ∷ replicate 15 closed }
 
 abbrev pub unattached : Table
 unattached = stream_zero 1 (record { state = Unattached; mode = 0; sap = 0; ppa = record { 0 = 0 }; granted = 0 }) []

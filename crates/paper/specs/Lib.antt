@@ -13,7 +13,6 @@ pub mod Exclusions
 pub mod StateRows
 pub mod Sight
 pub mod Datagrams
-pub mod Further
 pub mod ErrorOrder
 pub mod Effects
 pub mod Decide

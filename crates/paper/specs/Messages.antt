@@ -3,11 +3,10 @@ use Rattle.std.specs.Prelude.{ℕ, ◌+◌, List, [], ◌∷◌, length, get_or,
 use Rattle.ledger.specs.Choice.{◌⇒◌∣◌}
 use Rattle.ledger.specs.Tally.{has}
 use Rattle.octets.specs.Numbers.{be16_at, be32_at}
-use Rattle.paper.specs.Base.{mac_size, form_in, form_alone}
+use Rattle.paper.specs.Base.{mac_size, form_in}
 use Rattle.paper.specs.RecordsIn.{sap_at}
 use Rattle.paper.specs.declared.Primitive.{Primitive}
 use Rattle.paper.specs.declared.Primitive.TheVariants as primitive
-use Rattle.paper.specs.declared.SapPlace.{SapPlace}
 use Rattle.paper.specs.declared.Request.{Request}
 use Rattle.paper.specs.declared.Request.TheVariants as request
 use Rattle.paper.specs.declared.Rule.TheVariants as rule
@@ -18,9 +17,9 @@ abbrev pub code_in : List ℕ → ℕ
 code_in m = be32_at m 0
 
 -- The codes that step 1 of the order of errors answers with NOTSUPPORTED. (Document 02: a code once served leaves the list,
--- as 0x07, 0x15 and 0x1b did.)
+-- as 0x07 did.)
 abbrev pub not_supported_codes : List ℕ
-not_supported_codes = 0x0a ∷ 0x1d ∷ 0x1e ∷ 0x1f ∷ 0x20 ∷ []
+not_supported_codes = 0x0a ∷ 0x15 ∷ 0x1b ∷ 0x1d ∷ 0x1e ∷ 0x1f ∷ 0x20 ∷ []
 
 unfoldable pub other_code : ℕ → Primitive
 other_code code = has code not_supported_codes ⇒ primitive.NotSupported ∣ primitive.NotServed
@@ -39,17 +38,11 @@ primitive_of code =
     ∣ eqb code 0x17 ⇒ primitive.Reset
     ∣ eqb code 0x19 ⇒ primitive.ResetRes
     ∣ eqb code 0x07 ⇒ primitive.Unitdata
-    ∣ eqb code 0x1b ⇒ primitive.SubsBind
-    ∣ eqb code 0x15 ⇒ primitive.SubsUnbind
     ∣ other_code code
 
 -- L under the size is a rule of step 1 that fails.
 unfoldable pub sized : ℕ → List ℕ → Request → Asked
 sized size m q = ltb (length m) size ⇒ Wrong rule.TooShort ∣ For q
-
--- Document 02: the offset and the length of a SAP alone, and what stands there.
-abbrev pub sap_place_in : List ℕ → SapPlace
-sap_place_in m = record { offset = be32_at m 4; length = be32_at m 8; size = length m; sap = sap_at m (form_alone (be32_at m 8)) (be32_at m 4) }
 
 -- The fields after the code, and the size. Growth and QOS offset are not read.
 abbrev pub read_as : Primitive → List ℕ → Asked
@@ -73,9 +66,6 @@ read_as primitive.ResetRes m = sized 4 m request.ResetRes
 read_as primitive.Unitdata m =
     sized 20 m
     (request.Unitdata (record { length = be32_at m 4; offset = be32_at m 8; size = length m; sap = sap_at m (form_in (be32_at m 4)) (be32_at m 8 + mac_size) }))
--- the place, the class
-read_as primitive.SubsBind m = sized 16 m (request.SubsBind (sap_place_in m) (be32_at m 12))
-read_as primitive.SubsUnbind m = sized 12 m (request.SubsUnbind (sap_place_in m))
 read_as primitive.NotSupported m = Wrong rule.NotSupported
 read_as primitive.NotServed m = Wrong rule.NotServed
 

@@ -6,7 +6,7 @@ use Rattle.paper.specs.Base.{mac_size, address_size, length_of, number, header_n
 use Rattle.paper.specs.declared.Form.{Form}
 use Rattle.paper.specs.declared.Stream.{Stream}
 use Rattle.paper.specs.declared.Reply.{Reply}
-use Rattle.paper.specs.declared.Reply.TheVariants.{InfoAck, BindAck, ErrorAck, OkAck, ConnectInd, ConnectCon, TokenAck, DisconnectInd, ResetInd, ResetCon, UderrorInd, SubsBindAck}
+use Rattle.paper.specs.declared.Reply.TheVariants.{InfoAck, BindAck, ErrorAck, OkAck, ConnectInd, ConnectCon, TokenAck, DisconnectInd, ResetInd, ResetCon, UderrorInd}
 
 -- The originator is always 0x0701.
 abbrev pub originator : ℕ
@@ -61,8 +61,6 @@ fields_of (ResetInd reason) = 0x18 ∷ originator ∷ reason ∷ []
 fields_of ResetCon = 0x1a ∷ []
 -- document 02: no address, so length and offset are 0; the UNIX error 0, then the error
 fields_of (UderrorInd error) = 0x09 ∷ 0 ∷ 0 ∷ 0 ∷ error ∷ []
--- document 02: the SAP stands alone at offset 12
-fields_of (SubsBindAck sap) = 0x1c ∷ 12 ∷ sap_length sap ∷ []
 
 -- UNITDATA_IND, with addresses of a form (document 02): called length, offset 24, calling length, the offset right behind
 -- called, group flag 0; then called and calling
@@ -74,7 +72,7 @@ unfoldable pub content_of : Reply → List ℕ → List ℕ
 content_of reply tail = flat (fields_of reply) ++ tail
 
 -- The sizes. CONNECT_IND's and CONNECT_CON's count the addresses behind the fields; INFO_ACK's does not, nor does
--- BIND_ACK's, '24 +', nor SUBS_BIND_ACK's.
+-- BIND_ACK's: '24 +'.
 abbrev pub reply_size : Reply → ℕ
 reply_size (InfoAck s) = 76
 reply_size (BindAck sap granted) = 24
@@ -87,7 +85,6 @@ reply_size (DisconnectInd reason n) = 16
 reply_size (ResetInd reason) = 12
 reply_size ResetCon = 4
 reply_size (UderrorInd error) = 20
-reply_size (SubsBindAck sap) = 12
 
 -- how many bytes of address a size counts: called and calling; the address
 abbrev pub address_bytes : Reply → ℕ
@@ -102,9 +99,8 @@ address_bytes (DisconnectInd reason n) = 0
 address_bytes (ResetInd reason) = 0
 address_bytes ResetCon = 0
 address_bytes (UderrorInd error) = 0
-address_bytes (SubsBindAck sap) = 0
 
--- Codes 0x03 to 0x06 and 0x12 go up as C, 0x1c too (document 02), the other replies as P.
+-- Codes 0x03 to 0x06 and 0x12 go up as C, the other replies as P.
 abbrev pub goes_as_c : Reply → Bool
 goes_as_c (InfoAck s) = true
 goes_as_c (BindAck sap granted) = true
@@ -117,4 +113,3 @@ goes_as_c (DisconnectInd reason n) = false
 goes_as_c (ResetInd reason) = false
 goes_as_c ResetCon = false
 goes_as_c (UderrorInd error) = false
-goes_as_c (SubsBindAck sap) = true

@@ -3,8 +3,6 @@ use Rattle.std.specs.Prelude.{ℕ, ◌%◌, min, Bool, not, List, [], ◌∷◌,
 use Rattle.ledger.specs.Choice.{pick, both, either}
 use Rattle.ledger.specs.Tally.{has, first_of}
 use Rattle.paper.specs.Base.{stream_total, Slot, Table}
-use Rattle.paper.specs.declared.Form.{Form}
-use Rattle.paper.specs.declared.Form.TheVariants.{WithSap, WithType}
 use Rattle.paper.specs.declared.Stream.{Stream}
 use Rattle.paper.specs.declared.PpaNumber.{PpaNumber}
 
@@ -22,11 +20,6 @@ is_sap n = both (ltb n 256) (both (eqb (n % 2) 0) (not (has n reserved_saps)))
 -- an unreserved type 0x600 to 0xffff
 unfoldable pub is_type : ℕ → Bool
 is_type n = both (leb 0x600 n) (both (leb n 0xffff) (not (has n reserved_types)))
-
--- a SAP that a bind could take: in that form one byte is a SAP, two bytes are a type
-unfoldable pub could_be_bound : Form → ℕ → Bool
-could_be_bound WithSap sap = is_sap sap
-could_be_bound WithType sap = is_type sap
 
 -- The count granted is the smaller of that asked and 8; in mode 2 it is 0.
 abbrev pub most_open : ℕ

@@ -5,7 +5,7 @@ use Rattle.ledger.specs.Choice.{either, ◌⇒◌∣◌}
 use Rattle.paper.specs.Base.{Slot, Table, slot, stream, token_of, knows, mac_at}
 use Rattle.paper.specs.Saps.{is_listened_for}
 use Rattle.paper.specs.StateRows.{info_req, bind_req, unbind_req, attach_req, detach_req, connect_req, connect_res, token_req, disconnect_req}
-use Rattle.paper.specs.StateRows.{reset_req, reset_res, unitdata_req, subs_bind_req, subs_unbind_req, call_arrives, peer_accepted, peer_gone, call_withdrawn, peer_reset, reset_confirmed, found}
+use Rattle.paper.specs.StateRows.{reset_req, reset_res, unitdata_req, call_arrives, peer_accepted, peer_gone, call_withdrawn, peer_reset, reset_confirmed, found}
 use Rattle.paper.specs.declared.PpaNumber.{PpaNumber}
 use Rattle.paper.specs.declared.Token.{Token}
 use Rattle.paper.specs.declared.Carrier.{Carrier}
@@ -56,8 +56,6 @@ request_asks (request.Disconnect d) = disconnect_req asking nothing
 request_asks request.Reset = reset_req asking nothing
 request_asks request.ResetRes = reset_res asking nothing
 request_asks (request.Unitdata u) = unitdata_req asking nothing
-request_asks (request.SubsBind p class) = subs_bind_req asking nothing
-request_asks (request.SubsUnbind p) = subs_unbind_req asking nothing
 
 abbrev pub letter_of : Event → ℕ
 letter_of (event.Arrives n) = call_arrives

@@ -3,8 +3,8 @@
 use Rattle.std.specs.Prelude.{ℕ, ◌≡◌, Bool, true, false, not, List, [], ◌∷◌, length, eqb, ltb, leb}
 use Rattle.ledger.specs.Choice.{pick, both, either, asks}
 use Rattle.ledger.specs.Tally.{occ, has, one_if, sum_of, all_of}
-use Rattle.paper.specs.Base.{most_ppas, most_further, form_of, is_in, is_among, bound_states, connection_states, Slot, bound_to, Table, ppa_numbers}
-use Rattle.paper.specs.Saps.{could_be_bound, as_bind_allows, listens}
+use Rattle.paper.specs.Base.{most_ppas, is_in, is_among, bound_states, connection_states, Slot, Table, ppa_numbers}
+use Rattle.paper.specs.Saps.{as_bind_allows, listens}
 use Rattle.paper.specs.Correlations.{occurrences}
 use Rattle.paper.specs.declared.Stream.{Stream}
 use Rattle.paper.specs.declared.PpaNumber.{PpaNumber}
@@ -29,21 +29,7 @@ pub record Bindless (s : Stream) : Type 0 where
 -- a closed stream holds nothing
 unfoldable pub holds_nothing : Slot → Bool
 holds_nothing x =
-    both (is_in 0 x.stream)
-    (both (eqb x.stream.ppa.0 0)
-    (both (every (unbound x.stream)) (both (eqb (length x.waiting) 0) (eqb (length x.further) 0))))
-
--- document 02: further SAPs
-abbrev pub further_tests : Slot → List Bool
-further_tests x =
-    -- only in 6 and mode 2, at most four,
-    asks (ltb 0 (length x.further)) (both (is_in 6 x.stream) (eqb x.stream.mode 2))
-    ∷ leb (length x.further) most_further
-    -- of the first one's form, each one that a bind could take,
-    ∷ all_of (could_be_bound (form_of x.stream.sap)) x.further
-    -- all different and none the first
-    ∷ all_of (λ (n : ℕ). leb (occ n (bound_to x)) 1) (bound_to x)
-    ∷ []
+    both (is_in 0 x.stream) (both (eqb x.stream.ppa.0 0) (both (every (unbound x.stream)) (eqb (length x.waiting) 0)))
 
 -- an open one is in a state with a row below (`State` has no others),
 abbrev pub open_tests : List ℕ → Slot → List Bool
@@ -58,7 +44,6 @@ open_tests ppas x =
     ∷ same_answer (is_in 9 x.stream) (ltb 0 (length x.waiting))
     -- and at most the granted count (itself at most 8: `as_bind_allows`)
     ∷ leb (length x.waiting) x.stream.granted
-    ∷ every (further_tests x)
     ∷ []
 
 unfoldable pub sound_slot : List ℕ → Slot → Bool

@@ -38,17 +38,11 @@ token_req = 0x11
 abbrev pub disconnect_req : ℕ
 disconnect_req = 0x13
 
-abbrev pub subs_unbind_req : ℕ
-subs_unbind_req = 0x15
-
 abbrev pub reset_req : ℕ
 reset_req = 0x17
 
 abbrev pub reset_res : ℕ
 reset_res = 0x19
-
-abbrev pub subs_bind_req : ℕ
-subs_bind_req = 0x1b
 
 abbrev pub call_arrives : ℕ
 call_arrives = 73  -- I
@@ -139,11 +133,6 @@ state_rows =
     -- document 02: on a stream bound in mode 2 a datagram goes and a frame comes, unchanged
     ∷ stays unitdata_req (seat 6 2)
     ∷ stays frame_arrives (seat 6 2)
-    -- and a further SAP is bound or unbound in 6, in either mode, unchanged
-    ∷ stays subs_bind_req (seat 6 1)
-    ∷ stays subs_bind_req (seat 6 2)
-    ∷ stays subs_unbind_req (seat 6 1)
-    ∷ stays subs_unbind_req (seat 6 2)
     ∷ [])
 
 -- ---- a stream's row for what comes

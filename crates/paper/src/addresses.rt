@@ -1,7 +1,7 @@
 // The two forms of an address, and where it stands in lent bytes.
 ghost use Rattle.std.specs.Prelude.{◌≡◌, ◌≤◌};
 ghost use Rattle.octets.specs.Runs.{farthest};
-ghost use Rattle.paper.specs.Base.{length_of, form_in, form_of, sap_size, form_alone};
+ghost use Rattle.paper.specs.Base.{length_of, form_in, form_of};
 ghost use Rattle.paper.specs.RecordsIn.{sap_at};
 
 use crate::{ADDRESS_SIZE, Form, MOST_ADDRESS};
@@ -33,25 +33,6 @@ pub fn form_of(sap: u16) -> Form
         return Form::WithSap;
     }
     Form::WithType
-}
-
-// A SAP alone: its bytes, and its form by their number.
-pub fn sap_size(form: Form) -> usize
-    ensures { result ≡ sap_size form }
-{
-    match form {
-        Form::WithSap => 1,
-        Form::WithType => 2,
-    }
-}
-
-pub fn form_alone(n: u32) -> Form
-    ensures { result ≡ form_alone n }
-{
-    if n == 2 {
-        return Form::WithType;
-    }
-    Form::WithSap
 }
 
 // The SAP or type of an address, at the place where its MAC ends.

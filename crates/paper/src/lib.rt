@@ -6,12 +6,12 @@ mod states;
 ghost use Rattle.std.specs.Prelude.{◌≡◌};
 ghost use Rattle.paper.specs.Base.{number_of, state_of, header_number};
 
-pub use addresses::{form_alone, form_in, form_of, length_of, sap_at, sap_size};
+pub use addresses::{form_in, form_of, length_of, sap_at};
 pub use kinds::{is_message, size_out};
 pub use states::{holds_binding, is_calling, is_connection, is_joined, tells_binding};
 
-// The sizes that the paper names: a table's streams and PPAs, a MAC, the most open indications of a stream and of a table, the most
-// further SAPs of a stream, the room that a call needs, and a frame's.
+// The sizes that the paper names: a table's streams and PPAs, a MAC, the most open indications of a stream and of a table, the
+// room that a call needs, and a frame's.
 pub const STREAM_TOTAL: usize = 16;
 
 pub const MOST_PPAS: usize = 8;
@@ -21,8 +21,6 @@ pub const MAC_SIZE: usize = 6;
 pub const MOST_OPEN: usize = 8;
 
 pub const MOST_NUMBERS: usize = STREAM_TOTAL * MOST_OPEN;
-
-pub const MOST_FURTHER: usize = 4;
 
 pub const ROOM_SIZE: usize = 128;
 
@@ -176,7 +174,7 @@ pub enum Excluded {
     Not,
 }
 
-// A stream, but for the numbers of its open indications and its further SAPs. What it does not hold is zero.
+// A stream, but for the numbers of its open indications. What it does not hold is zero.
 #[derive(Drop)]
 pub struct Stream {
     pub state: State,
@@ -258,8 +256,6 @@ pub enum Primitive {
     Reset,
     ResetRes,
     Unitdata,
-    SubsBind,
-    SubsUnbind,
     // the codes of step 1's list
     NotSupported,
     // every other code
@@ -308,15 +304,6 @@ pub struct UnitdataRequest {
     pub sap: u16,
 }
 
-// Where a message names a SAP alone. `size` is L; `sap` what stands there: the byte or the two bytes.
-#[derive(Drop)]
-pub struct SapPlace {
-    pub offset: u32,
-    pub length: u32,
-    pub size: u8,
-    pub sap: u16,
-}
-
 // A message that is served as a request and is of full size.
 #[derive(Drop)]
 pub enum Request {
@@ -332,9 +319,6 @@ pub enum Request {
     Reset,
     ResetRes,
     Unitdata(UnitdataRequest),
-    // the place and the class
-    SubsBind(SapPlace, u32),
-    SubsUnbind(SapPlace),
 }
 
 // The rules that fail, in the order in which the paper tests them.
@@ -378,16 +362,6 @@ pub enum Rule {
     DatagramTooEarly,
     DatagramTooLate,
     DatagramSapNotAllowed,
-    // of a further SAP: mode and class, its place, the SAP
-    FurtherInModeOne,
-    FurtherClass,
-    FurtherLength,
-    FurtherTooEarly,
-    FurtherTooLate,
-    FurtherNotAllowed,
-    FurtherThere,
-    FurtherAbsent,
-    FurtherTooMany,
 }
 
 // What a message with a code comes to: a request, or a rule of step 1 that fails.
@@ -426,9 +400,6 @@ pub enum Service {
     ResetRes,
     // where the address begins in the message, and its form
     Unitdata(u8, Form),
-    // the further SAP
-    SubsBind(u16),
-    SubsUnbind(u16),
 }
 
 // What the order of errors comes to.
@@ -473,16 +444,12 @@ pub enum Event {
 #[derive(Drop)]
 pub enum Change {
     Stays,
-    // its open indications and its further SAPs are kept
+    // its open indications are kept
     Becomes(Stream),
     // one more, the youngest: the counter then stands one past its number
     Takes(Stream, Correlation),
     // one less, and the state where it was the last
     Loses(Stream, Correlation, State),
-    // one further SAP more, the last; one less; none any more
-    Adds(Stream, u16),
-    Drops(Stream, u16),
-    Unbinds(Stream),
 }
 
 // Orders to the line. The stream that an order names is not part of it.
@@ -518,8 +485,6 @@ pub enum Reply {
     ResetCon,
     // the error
     UderrorInd(u32),
-    // the further SAP
-    SubsBindAck(u16),
 }
 
 // What a call tells the line.

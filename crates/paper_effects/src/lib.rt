@@ -148,11 +148,8 @@ fn effect_of(x: StateRow, k: Token, s: Stream, v: Service) -> Effect
             let up = Saying::Says(Reply::BindAck(sap, granted));
             acting(change, Telling::Untold, false, up)
         }
-        // with F; it drops all further SAPs
-        Service::Unbind => {
-            let change = Change::Unbinds(paper_rules::settled(next(x), s));
-            acting(change, Telling::Untold, true, ok(x))
-        }
+        // with F
+        Service::Unbind => acting(onward(x, s), Telling::Untold, true, ok(x)),
         // c, no reply
         Service::Connect(at) => {
             let order = Telling::Tells(LineOrder::Connect(at));
@@ -182,16 +179,6 @@ fn effect_of(x: StateRow, k: Token, s: Stream, v: Service) -> Effect
         Service::Unitdata(at, form) => {
             let order = Telling::Tells(LineOrder::Unitdata(at, form));
             acting(unchanged(x, s), order, false, Saying::Unsaid)
-        }
-        // a further SAP: SUBS_BIND_ACK; OK_ACK
-        Service::SubsBind(sap) => {
-            let change = Change::Adds(paper_rules::settled(next(x), s), sap);
-            let up = Saying::Says(Reply::SubsBindAck(sap));
-            acting(change, Telling::Untold, false, up)
-        }
-        Service::SubsUnbind(sap) => {
-            let change = Change::Drops(paper_rules::settled(next(x), s), sap);
-            acting(change, Telling::Untold, false, ok(x))
         }
     }
 }

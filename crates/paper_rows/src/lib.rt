@@ -2,7 +2,7 @@
 // or, where it has several, the state and the mode lead to the one that can be meant; that row's state and mode are tested.
 ghost use Rattle.std.specs.Prelude.{◌≡◌, [], ◌∷◌, map, ℕ};
 ghost use Rattle.paper.specs.Base.{number};
-ghost use Rattle.paper.specs.StateRows.{seat, stays, seats, state_rows, frame_arrives, found_in, found, is_found};
+ghost use Rattle.paper.specs.StateRows.{stays, seats, state_rows, frame_arrives, found_in, found, is_found};
 ghost use Rattle.paper.specs.Sight.{request_asks, letter_of};
 ghost use Rattle.paper_rows.specs.Courses.{along};
 
@@ -27,8 +27,6 @@ fn code_of(q: Request) -> u8
         Request::Reset => 0x17,
         Request::ResetRes => 0x19,
         Request::Unitdata(_) => 0x07,
-        Request::SubsBind(_, _) => 0x1b,
-        Request::SubsUnbind(_) => 0x15,
     }
 }
 
@@ -78,16 +76,6 @@ fn stays(state: u8, mode: u8) -> Course
     }
 }
 
-// SUBS_BIND_REQ and SUBS_UNBIND_REQ: 6, in either mode, unchanged.
-fn stays_idle(mode: u8) -> Course
-    ensures { (state cause : ℕ) → along result state mode cause ≡ found_in (stays cause (seat 6 1) ∷ stays cause (seat 6 2) ∷ []) state mode cause }
-{
-    if mode == 1 {
-        return Course::Leads(1, 6, 6);
-    }
-    Course::Leads(2, 6, 6)
-}
-
 // The one row that a request can have in a state and a mode. (The last of several stands for every other state: it is tested.)
 fn request_course(state: u8, mode: u8, q: Request) -> Course
     ensures { along result state mode (request_asks q).cause ≡ found_in state_rows state mode (request_asks q).cause }
@@ -121,9 +109,6 @@ fn request_course(state: u8, mode: u8, q: Request) -> Course
         Request::ResetRes => Course::Leads(1, 13, 11),
         // on a stream bound in mode 2 a datagram goes, unchanged
         Request::Unitdata(_) => Course::Leads(2, 6, 6),
-        // a further SAP is bound or unbound, unchanged
-        Request::SubsBind(_, _) => stays_idle(mode),
-        Request::SubsUnbind(_) => stays_idle(mode),
     }
 }
 

@@ -1,8 +1,19 @@
 // A datagram's address: the first rule that fails, or what serves.
 ghost use Rattle.std.specs.Prelude.{◌≡◌};
-ghost use Rattle.paper.specs.Datagrams.{judge_datagram};
+ghost use Rattle.paper.specs.Datagrams.{could_be_bound, judge_datagram};
 
-use paper::{Rule, Service, Stream, UnitdataRequest, Verdict};
+use crate::saps::{is_sap, is_type};
+use paper::{Form, Rule, Service, Stream, UnitdataRequest, Verdict};
+
+// A SAP that a bind could take: one byte is a SAP, two bytes are a type.
+fn could_be_bound(form: Form, sap: u16) -> bool
+    ensures { result ≡ could_be_bound form sap }
+{
+    match form {
+        Form::WithSap => is_sap(sap as u32),
+        Form::WithType => is_type(sap as u32),
+    }
+}
 
 // The address has the stream's own form, and lies behind the fixed fields and within L.
 pub fn judge_datagram(s: Stream, u: UnitdataRequest) -> Verdict
@@ -21,7 +32,7 @@ pub fn judge_datagram(s: Stream, u: UnitdataRequest) -> Verdict
     if (u.size as u64) < end {
         return Verdict::Fails(Rule::DatagramTooLate);
     }
-    if !paper_saps::could_be_bound(form, u.sap) {
+    if !could_be_bound(form, u.sap) {
         return Verdict::Fails(Rule::DatagramSapNotAllowed);
     }
     Verdict::Serves(Service::Unitdata(at as u8, form))

@@ -26,8 +26,6 @@ const BOUND: u32 = 0x0d;
 
 const NOTSUPPORTED: u32 = 0x12;
 
-const TOOMANY: u32 = 0x13;
-
 const NOAUTO: u32 = 0x16;
 
 const PENDING: u32 = 0x1b;
@@ -66,14 +64,5 @@ pub fn error_of(rule: Rule) -> u32
         Rule::DatagramTooEarly => BADADDR,
         Rule::DatagramTooLate => BADADDR,
         Rule::DatagramSapNotAllowed => BADADDR,
-        Rule::FurtherInModeOne => UNSUPPORTED,
-        Rule::FurtherClass => UNSUPPORTED,
-        Rule::FurtherLength => BADADDR,
-        Rule::FurtherTooEarly => BADADDR,
-        Rule::FurtherTooLate => BADADDR,
-        Rule::FurtherNotAllowed => BADADDR,
-        Rule::FurtherThere => BADADDR,
-        Rule::FurtherAbsent => BADADDR,
-        Rule::FurtherTooMany => TOOMANY,
     }
 }

@@ -5,6 +5,7 @@ ghost use Rattle.paper.specs.Saps.{is_type};
 ghost use Rattle.paper.specs.ErrorOrder.{judge_attach, judge_listening, judge_bind, judge_connect, judge_other, judge_itself, judge_carrier, judge_accept, judge_denial, judge_disconnect, without_row};
 ghost use Rattle.paper_rules.specs.Keepable.{Keepable};
 
+use crate::saps::{grant_of, is_sap_or_type, is_type};
 use crate::streams::state_number;
 use paper::{
     ADDRESS_SIZE, BindRequest, Carrier, ConnectRequest, ConnectResponse, Correlation,
@@ -41,7 +42,7 @@ fn is_mode(mode: u16) -> bool
 fn connects_to_type(b: BindRequest) -> bool
     ensures { result ≡ both (eqb b.mode 1) (is_type b.sap) }
 {
-    b.mode == 1 && paper_saps::is_type(b.sap)
+    b.mode == 1 && is_type(b.sap)
 }
 
 // A second listener for one PPA and SAP.
@@ -65,7 +66,7 @@ fn judge_listening(b: BindRequest, listened: bool) -> Verdict
     if listens_too(b, listened) {
         return Verdict::Fails(Rule::ListenedFor);
     }
-    let granted = paper_saps::grant_of(b.mode, b.most);
+    let granted = grant_of(b.mode, b.most);
     Verdict::Serves(Service::Bind(b.mode as u8, b.sap as u16, granted))
 }
 
@@ -82,7 +83,7 @@ pub fn judge_bind(b: BindRequest, listened: bool) -> Verdict
     if b.xidtest != 0 {
         return Verdict::Fails(Rule::AutomaticXid);
     }
-    if !paper_saps::is_sap_or_type(b.sap) {
+    if !is_sap_or_type(b.sap) {
         return Verdict::Fails(Rule::SapNotAllowed);
     }
     judge_listening(b, listened)

@@ -3,7 +3,7 @@
 use Prim.Native.Nat.{ℕ, ◌≤◌}
 use native.Mathlib.Omega.{arith}
 use mathlib.Core.Path.{◌≡◌, refl, sym, ap, subst, ◌∙◌}
-use mathlib.Core.Bool.{true, not, false}
+use mathlib.Core.Bool.{true, not}
 use mathlib.Core.List.{List, [], ◌∷◌}
 use lib.ListN.{length}
 use Rattle.ledger.specs.Tally.{has}
@@ -18,7 +18,6 @@ use Rattle.paper.specs.Refusals.{Outcome}
 use Rattle.paper.specs.Replies.{content_of}
 use Rattle.paper.specs.Sight.{request_asks, sight_by}
 use Rattle.paper.specs.StateRows.{state_rows, found}
-use Rattle.paper.specs.declared.SapPlace.{SapPlace}
 use Rattle.paper.specs.declared.Asked.{Asked}
 use Rattle.paper.specs.declared.Asked.TheVariants.{For, Wrong}
 use Rattle.paper.specs.declared.Found.{Found}
@@ -34,11 +33,10 @@ use Rattle.paper.specs.declared.Verdict.{Verdict}
 use Rattle.paper.specs.declared.Verdict.TheVariants.{Serves, Fails}
 use Rattle.paper.proofs.Fair.{asks, Faulty, unknown_ppa, unknown_mode, managed, automatic, not_allowed, typed, listened_for, connect_qos, not_seven, too_early, too_late, odd}
 use Rattle.paper.proofs.Fair.{not_open, accept_qos, others_open, of_none, not_idle, other_ppa, connectionless, denial_not_open, not_zero}
-use Rattle.paper.proofs.Fair.{Misplaced, other_size, named_early, named_late, unbindable, adds_in_mode_one, other_class, adds_misplaced, is_there, fifth, drops_in_mode_one, drops_misplaced, absent}
 use Rattle.paper.proofs.Fair.{other_form, sent_early, sent_late, not_bindable, Judged, fails, serves, judged_fairly}
 use Rattle.paper.proofs.Walk.{Replied, failing, serving}
 use Rattle.table_image.specs.Layout.{table_of, sound_image}
-use Rattle.promises.specs.Answers.{is_datagram, errors_told, complaint_to, complaint_bytes, Complete, has_row}
+use Rattle.promises.specs.Answers.{errors_told, complaint_to, complaint_bytes, Complete, has_row}
 use Rattle.promises.specs.Harness.{Lending, left_on, came_back}
 use Rattle.promises.specs.History.{Answered}
 use Rattle.promises.proofs.Demand2.{call-passed, call_gets_out_state, errors_of_the_call}
@@ -73,8 +71,6 @@ module _ (m : List ℕ) where
   wrong_as primitive.Reset = of_size 4 request.Reset
   wrong_as primitive.ResetRes = of_size 4 request.ResetRes
   wrong_as primitive.Unitdata = of_size 20 (request.Unitdata _)
-  wrong_as primitive.SubsBind = of_size 16 (request.SubsBind _ _)
-  wrong_as primitive.SubsUnbind = of_size 12 (request.SubsUnbind _)
   wrong_as primitive.NotSupported = refl
   wrong_as primitive.NotServed = refl
 
@@ -98,17 +94,8 @@ rowless_fits (request.Disconnect d) = refl
 rowless_fits request.Reset = refl
 rowless_fits request.ResetRes = refl
 rowless_fits (request.Unitdata u) = refl
-rowless_fits (request.SubsBind p class) = refl
-rowless_fits (request.SubsUnbind p) = refl
 
 -- ---- the other steps
-
--- a place that may not name a further SAP
-misplaced_fits : (q : Request) → is_datagram q ≡ false → {size sap : ℕ} {p : SapPlace} {w : Rule} → Misplaced size sap p w → Fit (For q) w
-misplaced_fits q e (other_size h) = rw e refl
-misplaced_fits q e (named_early h) = rw e refl
-misplaced_fits q e (named_late h) = rw e refl
-misplaced_fits q e (unbindable h) = rw e refl
 
 module _ (t : Table) (i : ℕ) (m : List ℕ) where
   faulty_fits : {q : Request} {w : Rule} → Faulty t i q w → Fit (For q) w
@@ -137,14 +124,6 @@ module _ (t : Table) (i : ℕ) (m : List ℕ) where
   faulty_fits (sent_early h) = refl
   faulty_fits (sent_late h) = refl
   faulty_fits (not_bindable h) = refl
-  faulty_fits (adds_in_mode_one h) = refl
-  faulty_fits (other_class h) = refl
-  faulty_fits (adds_misplaced {p = p} {class = class} h) = misplaced_fits (request.SubsBind p class) refl h
-  faulty_fits (is_there h) = refl
-  faulty_fits (fifth h) = refl
-  faulty_fits (drops_in_mode_one h) = refl
-  faulty_fits (drops_misplaced {p = p} h) = misplaced_fits (request.SubsUnbind p) refl h
-  faulty_fits (absent h) = refl
 
   -- ---- all of them, on message m
 

@@ -18,7 +18,7 @@ use Rattle.ledger.proofs.Sums.{of-asks}
 use Rattle.octets.specs.Numbers.{be32_at}
 use Rattle.octets.specs.Runs.{part, same_bytes}
 use Rattle.octets.specs.Blocks.{block_size, flat, pad_to, pad}
-use Rattle.paper.specs.Base.{mac_size, most_address, stream_total, length_of, form_of, number, is_in, Slot, closed, bound_to, Table, slot, stream, token_of, mac_of}
+use Rattle.paper.specs.Base.{mac_size, most_address, stream_total, length_of, form_of, number, is_in, Slot, closed, Table, slot, stream, token_of, mac_of}
 use Rattle.paper.specs.RecordsIn.{head_size, pair_size, size_of, is_message, stream_in, size_in, sap_at, wants_data, has_data}
 use Rattle.paper.specs.RecordsIn.{block_in, message_in, data_in, frame_called_in, frame_calling_in, frame_data_in, input_of}
 use Rattle.paper.specs.RecordsOut.{order, unitdata, datum, bytes_of, all_bytes, in_order}
@@ -46,7 +46,7 @@ use Rattle.paper.specs.declared.StateRow.{StateRow}
 use Rattle.paper.specs.declared.Stream.{Stream}
 use Rattle.paper.proofs.Effects.{errors_in}
 use Rattle.paper.proofs.Fair as fair
-use Rattle.paper.proofs.Fair.{Fair, informs, tells_token, attaches, detaches, binds, unbinds, connects, accepts_here, accepts_on, denies, disconnects, resets, answers_reset, sends_data, adds_sap, drops_sap}
+use Rattle.paper.proofs.Fair.{Fair, informs, tells_token, attaches, detaches, binds, unbinds, connects, accepts_here, accepts_on, denies, disconnects, resets, answers_reset, sends_data}
 use Rattle.paper.proofs.Frames.{shown_by, shown_count, shown_ascending, shown_few, indication-long, indications-long}
 use Rattle.paper.proofs.Letters.{Letter, LetterOfFrame, letter}
 use Rattle.paper.proofs.Pairs.{code_in_lem, paired, data_lent, datagram_offset}
@@ -100,8 +100,6 @@ module _ (t : Table) (r : List ℕ) where
   served-sends i l x s d k a h z (disconnects y w) = absurd (omega (arith, z))
   served-sends i l x s d k a h z resets = absurd (omega (arith, z))
   served-sends i l x s d k a h z answers_reset = absurd (omega (arith, z))
-  served-sends i l x s d k a h z (adds_sap y) = absurd (omega (arith, z))
-  served-sends i l x s d k a h z (drops_sap y) = absurd (omega (arith, z))
   served-sends i l x s d k a h z (sends_data y) = rw (row_stays (stream t i) h) (sends s (datagram_offset r l k a) d)
 
   -- no other record begins so
@@ -268,13 +266,13 @@ module _ (t : Table) (full : length t.slots ≡ stream_total) (r : List ℕ) (f 
       let b = both_of (slot t i).is_open _ (both_of (ltb i stream_total) _ a.1).1 in
       let c = both_of (is_found (found state_rows x frame_arrives)) _ b.1 in
       let d = both_of (eqb x.ppa.0 f.ppa.0) _ c.1 in
-      let e = both_of (has f.sap (bound_to (slot t i))) _ d.1 in
+      let e = both_of (eqb x.sap f.sap) _ d.1 in
       let row = both_of (is_in 6 x) (eqb x.mode 2) (sym (frame_row x) ∙ c.0) in
       let p : x.ppa.0 ≡ f.ppa.0 = eqb-true _ _ d.0 in
       let n : own_length x ≡ length_of f.form = eqb-true _ _ e.1 in
-      let sap : f.sap ≡ sap_at r (form_of x.sap) 12 = sym k.sap ∙ ap (λ (form : Form). sap_at r form 12) (sym (same_form (form_of x.sap) f.form n)) in
+      let sap : x.sap ≡ sap_at r (form_of x.sap) 12 = eqb-true _ _ e.0 ∙ sym k.sap ∙ ap (λ (form : Form). sap_at r form 12) (sym (same_form (form_of x.sap) f.form n)) in
       to_both _ _ b.0 (to_both _ _ row.0 (to_both _ _ row.1 (to_both _ _ (eq-eqb _ _ (p ∙ sym k.ppa))
-      (to_both _ _ (sym (same-mac p) ∙ a.0) (to_both _ _ (eq-eqb _ _ (n ∙ sym k.address)) (ap (λ (n : ℕ). has n (bound_to (slot t i))) (sym sap) ∙ e.0))))))
+      (to_both _ _ (sym (same-mac p) ∙ a.0) (to_both _ _ (eq-eqb _ _ (n ∙ sym k.address)) (eq-eqb _ _ sap))))))
 
   comes_shown : comes_to t r i ≡ true → shown_by state_rows t r f i ≡ true
   unfolding is_shown is_for
@@ -288,10 +286,10 @@ module _ (t : Table) (full : length t.slots ≡ stream_total) (r : List ℕ) (f 
       let g = both_of (eqb (own_length x) (get_or r 5 0)) _ e.1 in
       let p : x.ppa.0 ≡ f.ppa.0 = eqb-true _ _ d.0 ∙ k.ppa in
       let n : own_length x ≡ length_of f.form = eqb-true _ _ g.0 ∙ k.address in
-      let sap : sap_at r (form_of x.sap) 12 ≡ f.sap = ap (λ (form : Form). sap_at r form 12) (same_form (form_of x.sap) f.form n) ∙ k.sap in
+      let sap : x.sap ≡ f.sap = eqb-true _ _ g.1 ∙ ap (λ (form : Form). sap_at r form 12) (same_form (form_of x.sap) f.form n) ∙ k.sap in
       let small : i < stream_total = omega (arith, within (λ (x : Slot). x.is_open) closed refl t.slots i a.0, full) in
       to_both _ _ (same-mac p ∙ e.0) (to_both _ _ (lt-ltb i stream_total small) (to_both _ _ a.0 (to_both _ _ (frame_row x ∙ to_both _ _ b.0 c.0)
-      (to_both _ _ (eq-eqb _ _ p) (to_both _ _ (ap (λ (n : ℕ). has n (bound_to (slot t i))) (sym sap) ∙ g.1) (eq-eqb _ _ n))))))
+      (to_both _ _ (eq-eqb _ _ p) (to_both _ _ (eq-eqb _ _ sap) (eq-eqb _ _ n))))))
 
 -- The streams of the list are exactly those that the frame comes to,
 pub shown_exactly : (img r : List ℕ) (f : Frame) → sound_image img ≡ true → input_of r ≡ input.Frame f → (i : ℕ)

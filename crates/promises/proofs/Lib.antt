@@ -8,7 +8,6 @@ pub mod Grants
 pub mod Orders
 pub mod Complaints
 pub mod Datagrams
-pub mod Further
 -- What they rest on. What an effect writes, what the bytes lent say of their record, and what holds on every way that a call can go.
 pub mod Written
 pub mod Orderly

@@ -62,7 +62,6 @@ no_opening_reply i (reply.DisconnectInd reason n) s k = picked (λ (y : Line). o
 no_opening_reply i (reply.ResetInd reason) s k = refl
 no_opening_reply i reply.ResetCon s k = refl
 no_opening_reply i (reply.UderrorInd error) s k = refl
-no_opening_reply i (reply.SubsBindAck sap) s k = refl
 
 no_openings : (q : Input) (rs : List Record) (s k : ℕ) → openings_in s (map (line_of q) rs) k ≡ k
 no_openings q [] s k = refl

@@ -17,8 +17,8 @@ use Rattle.fates_book.specs.declared.End.TheVariants.{Denied, Withdrawn, Dropped
 use Rattle.fates_book.specs.declared.Line.TheVariants.{Went}
 use Rattle.fates_book.specs.Lines.{is_message_of, may_be_said}
 use Rattle.ledger.proofs.Sums.{put_same}
-use Rattle.paper.specs.Base.{Slot, closed, just_opened, Table, slot, stream, waiting, further, lowest_free, token_of, stream_total, address_size, form_of}
-use Rattle.paper.specs.Base.{ppa_numbers, mac_of, mac_at, with_slot, with_numbers, with_stream, with_further, with_counter, with_ppa, remembering}
+use Rattle.paper.specs.Base.{Slot, closed, just_opened, Table, slot, stream, waiting, lowest_free, token_of, stream_total, address_size, form_of}
+use Rattle.paper.specs.Base.{ppa_numbers, mac_of, mac_at, with_slot, with_numbers, with_stream, with_counter, with_ppa, remembering}
 use Rattle.paper.specs.Datagrams.{shown_to, indications}
 use Rattle.paper.specs.Effects.{changed, carried, enacted, orders_in, error_effect, effect_of, event_effect}
 use Rattle.paper.specs.ErrorCodes.{complaint_of}
@@ -34,7 +34,7 @@ use Rattle.paper.specs.StateRows.{unitdata_req, call_arrives, peer_accepted, pee
 use Rattle.paper.specs.Room.{room_size, room_for, Fits}
 use Rattle.paper.specs.declared.Asked.TheVariants.{For}
 use Rattle.paper.specs.declared.Change.{Change}
-use Rattle.paper.specs.declared.Change.TheVariants.{Stays, Becomes, Takes, Loses, Adds, Drops, Unbinds}
+use Rattle.paper.specs.declared.Change.TheVariants.{Stays, Becomes, Takes, Loses}
 use Rattle.paper.specs.declared.Effect.{Effect}
 use Rattle.paper.specs.declared.Event.{Event}
 use Rattle.paper.specs.declared.Frame.{Frame}
@@ -46,7 +46,7 @@ use Rattle.paper.specs.declared.Service.{Service}
 use Rattle.paper.specs.declared.Request.{Request}
 use Rattle.paper.specs.declared.StateRow.{StateRow}
 use Rattle.paper.specs.declared.Stream.{Stream}
-use Rattle.paper.proofs.Fair.{asks, Fair, informs, tells_token, attaches, detaches, binds, unbinds, connects, accepts_here, accepts_on, denies, disconnects, resets, answers_reset, sends_data, adds_sap, drops_sap}
+use Rattle.paper.proofs.Fair.{asks, Fair, informs, tells_token, attaches, detaches, binds, unbinds, connects, accepts_here, accepts_on, denies, disconnects, resets, answers_reset, sends_data}
 use Rattle.paper.proofs.Walk.{done, erring, erred, failing, serving, Brings, arriving, accepted, gone, withdrawn, reset, confirmed}
 use Rattle.paper.proofs.Walk.{Sent, Way, refusing, adding, opening, closing, answering, bringing, showing, any_walk}
 use Rattle.paper.proofs.RecordsOut.{goodbyes-long}
@@ -73,11 +73,7 @@ never_zero s = ne_eqb 0 (suc s) (λ e. omega (arith, e))
 
 open_numbers_lem : (t : Table) (i : ℕ) (x : Stream) (w : List ℕ) (s : ℕ) → (slot (with_numbers t i x w) s).is_open ≡ (slot t s).is_open
 unfolding with_numbers with_slot
-open_numbers_lem t i x w s = put_same (λ (y : Slot). y.is_open) closed t.slots i s (record { is_open = (slot t i).is_open; stream = x; waiting = w; further = further t i }) refl
-
-open_further : (t : Table) (i : ℕ) (f : List ℕ) (s : ℕ) → (slot (with_further t i f) s).is_open ≡ (slot t s).is_open
-unfolding with_further with_slot
-open_further t i f s = put_same (λ (y : Slot). y.is_open) closed t.slots i s (record { is_open = (slot t i).is_open; stream = stream t i; waiting = waiting t i; further = f }) refl
+open_numbers_lem t i x w s = put_same (λ (y : Slot). y.is_open) closed t.slots i s (record { is_open = (slot t i).is_open; stream = x; waiting = w }) refl
 
 open_changed : (t : Table) (i : ℕ) (c : Change) (s : ℕ) → (slot (changed t i c) s).is_open ≡ (slot t s).is_open
 unfolding changed with_stream with_counter with_numbers with_slot
@@ -85,9 +81,6 @@ open_changed t i Stays s = refl
 open_changed t i (Becomes x) s = open_numbers_lem t i x (waiting t i) s
 open_changed t i (Takes x n) s = open_numbers_lem t i x (waiting t i ++ (n.0 ∷ [])) s
 open_changed t i (Loses x n last) s = open_numbers_lem t i _ _ s
-open_changed t i (Adds x sap) s = open_numbers_lem (with_further t i _) i x _ s ∙ open_further t i _ s
-open_changed t i (Drops x sap) s = open_numbers_lem (with_further t i _) i x _ s ∙ open_further t i _ s
-open_changed t i (Unbinds x) s = open_numbers_lem (with_further t i []) i x _ s ∙ open_further t i [] s
 
 open_carried : (t : Table) (c : ℕ) (b : Bool) (s : ℕ) → (slot (carried t c b) s).is_open ≡ (slot t s).is_open
 unfolding carried with_stream
@@ -210,8 +203,6 @@ module _ (t : Table) (r : List ℕ) (i l n : ℕ) (mine : is_message_of i r ≡ 
     );
     says = refl;
   }
-  proper_service x p (adds_sap h) = record { orders = omega arith; says = refl }
-  proper_service x p (drops_sap h) = record { orders = omega arith; says = refl }
 
 -- ---- what the line brings
 

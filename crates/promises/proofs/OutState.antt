@@ -16,7 +16,6 @@ use Rattle.paper.specs.Sight.{request_asks, sight_by}
 use Rattle.paper.specs.Sound.{sound}
 use Rattle.paper.specs.StateRows.{state_rows, found, is_found}
 use Rattle.paper.specs.Step.{step}
-use Rattle.paper.specs.declared.SapPlace.{SapPlace}
 use Rattle.paper.specs.declared.Asked.TheVariants.{For}
 use Rattle.paper.specs.declared.Carrier.{Carrier}
 use Rattle.paper.specs.declared.ConnectResponse.{ConnectResponse}
@@ -29,9 +28,8 @@ use Rattle.paper.specs.declared.Service.{Service}
 use Rattle.paper.specs.declared.StateRow.{StateRow}
 use Rattle.paper.specs.declared.Verdict.{Verdict}
 use Rattle.paper.proofs.Fair.{Asks, asks, Fair, informs, tells_token, attaches, detaches, binds, unbinds, connects, accepts_here, accepts_on, denies, disconnects, resets}
-use Rattle.paper.proofs.Fair.{answers_reset, sends_data, adds_sap, drops_sap, Offers, Faulty, unknown_ppa, unknown_mode, managed, automatic, not_allowed, typed, listened_for, connect_qos, not_seven, too_early, too_late, odd}
+use Rattle.paper.proofs.Fair.{answers_reset, sends_data, Offers, Faulty, unknown_ppa, unknown_mode, managed, automatic, not_allowed, typed, listened_for, connect_qos, not_seven, too_early, too_late, odd}
 use Rattle.paper.proofs.Fair.{not_open, accept_qos, others_open, of_none, not_idle, other_ppa, connectionless, denial_not_open, not_zero}
-use Rattle.paper.proofs.Fair.{Misplaced, other_size, named_early, named_late, unbindable, adds_in_mode_one, other_class, adds_misplaced, is_there, fifth, drops_in_mode_one, drops_misplaced, absent}
 use Rattle.paper.proofs.Fair.{other_form, sent_early, sent_late, not_bindable, Judged, fails, serves, judged_fairly}
 use Rattle.paper.proofs.Effects.{errors_in}
 use Rattle.promises.specs.Answers.{Complete, has_row, is_busy, offers_busy}
@@ -54,15 +52,6 @@ rowless (request.Disconnect d) = refl
 rowless request.Reset = refl
 rowless request.ResetRes = refl
 rowless (request.Unitdata u) = refl
-rowless (request.SubsBind p class) = refl
-rowless (request.SubsUnbind p) = refl
-
--- nor does a place that may not name a further SAP
-misplaced_says : {size sap : ℕ} {p : SapPlace} {w : Rule} → Misplaced size sap p w → has out_state (error_of w ∷ []) ≡ false
-misplaced_says (other_size h) = refl
-misplaced_says (named_early h) = refl
-misplaced_says (named_late h) = refl
-misplaced_says (unbindable h) = refl
 
 module _ (t : Table) (i : ℕ) (m : List ℕ) where
   -- an accept with no error before its carrier is looked at offers a busy stream exactly if that carrier is one
@@ -85,8 +74,6 @@ module _ (t : Table) (i : ℕ) (m : List ℕ) where
   served_says resets = refl
   served_says answers_reset = refl
   served_says (sends_data h) = refl
-  served_says (adds_sap h) = refl
-  served_says (drops_sap h) = refl
 
   rule_says : {q : Request} {w : Rule} → Faulty t i q w → has out_state (error_of w ∷ []) ≡ offers_busy t i q
   rule_says (unknown_ppa h) = refl
@@ -114,14 +101,6 @@ module _ (t : Table) (i : ℕ) (m : List ℕ) where
   rule_says (sent_early h) = refl
   rule_says (sent_late h) = refl
   rule_says (not_bindable h) = refl
-  rule_says (adds_in_mode_one h) = refl
-  rule_says (other_class h) = refl
-  rule_says (adds_misplaced h) = misplaced_says h
-  rule_says (is_there h) = refl
-  rule_says (fifth h) = refl
-  rule_says (drops_in_mode_one h) = refl
-  rule_says (drops_misplaced h) = misplaced_says h
-  rule_says (absent h) = refl
 
   judged_says : {q : Request} {c : ℕ} {v : Verdict} → Judged t i m q c v → has out_state (errors_by v) ≡ offers_busy t i q
   judged_says (serves f) = served_says f

@@ -68,7 +68,6 @@ error_read (up i (reply.DisconnectInd reason n) tail) rest = refl
 error_read (up i (reply.ResetInd reason) tail) rest = refl
 error_read (up i reply.ResetCon tail) rest = refl
 error_read (up i (reply.UderrorInd error) tail) rest = ap (λ (e : ℕ). e ∷ []) (omega arith)
-error_read (up i (reply.SubsBindAck sap) tail) rest = refl
 error_read (unitdata i form addresses) rest = refl
 error_read (datum i body) rest = refl
 

@@ -53,8 +53,6 @@ is_datagram (request.Disconnect d) = false
 is_datagram request.Reset = false
 is_datagram request.ResetRes = false
 is_datagram (request.Unitdata u) = true
-is_datagram (request.SubsBind p class) = false
-is_datagram (request.SubsUnbind p) = false
 
 abbrev pub complaint_to : Asked → ℕ → Complaint
 complaint_to (Wrong w) error = error_ack error
@@ -115,5 +113,3 @@ offers_busy t i (request.Disconnect d) = false
 offers_busy t i request.Reset = false
 offers_busy t i request.ResetRes = false
 offers_busy t i (request.Unitdata u) = false
-offers_busy t i (request.SubsBind p class) = false
-offers_busy t i (request.SubsUnbind p) = false

@@ -2,11 +2,10 @@
 -- bytes that each of them is shown. They are read from the bytes lent and from how the streams stand, by no state row and no record.
 use Rattle.std.specs.Prelude.{ℕ, ◌+◌, Bool, List, [], ◌∷◌, ◌++◌, get_or, eqb}
 use Rattle.ledger.specs.Choice.{both}
-use Rattle.ledger.specs.Tally.{has}
 use Rattle.octets.specs.Numbers.{be32_at}
 use Rattle.octets.specs.Runs.{part, same_bytes}
 use Rattle.octets.specs.Blocks.{flat, pad_to, pad}
-use Rattle.paper.specs.Base.{mac_size, most_address, length_of, form_of, is_in, bound_to, Table, slot, stream, mac_of}
+use Rattle.paper.specs.Base.{mac_size, most_address, length_of, form_of, is_in, Table, slot, stream, mac_of}
 use Rattle.paper.specs.RecordsIn.{head_size, message_size, most_data, data_size, stream_in, sap_at, block_in}
 use Rattle.paper.specs.declared.Stream.{Stream}
 
@@ -24,7 +23,7 @@ sent_bytes s r =
 
 -- A frame comes to stream i: it is open, in state 6, bound in mode 2, attached to the PPA that the frame names (from byte 1 on); the
 -- called MAC (from byte 6 on) is that PPA's; the frame's address length (byte 5) is that of the stream's own form, and what stands
--- behind the called MAC, in that form, is one of the SAPs or types that the stream is bound to: the first, or a further one.
+-- behind the called MAC, in that form, is the SAP or type that the stream is bound to.
 abbrev pub comes_to : Table → List ℕ → ℕ → Bool
 comes_to t r i =
     both (slot t i).is_open
@@ -33,7 +32,7 @@ comes_to t r i =
     (both (eqb (stream t i).ppa.0 (be32_at r 1))
     (both (same_bytes (part r 6 mac_size) (mac_of t (stream t i).ppa))
     (both (eqb (own_length (stream t i)) (get_or r 5 0))
-    (has (sap_at r (form_of (stream t i).sap) 12) (bound_to (slot t i))))))))
+    (eqb (stream t i).sap (sap_at r (form_of (stream t i).sap) 12)))))))
 
 -- What a stream is shown of a frame whose addresses have n bytes: a P with UNITDATA_IND, its fields, then called and calling, zero up to
 -- 96 bytes; then an M with the frame's data length and data.

@@ -3,4 +3,3 @@ pub mod Answers
 pub mod History
 pub mod Harness
 pub mod Datagrams
-pub mod Further

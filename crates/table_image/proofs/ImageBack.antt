@@ -4,9 +4,9 @@ use Prim.Native.Nat.{ℕ, zero, suc, ◌+◌, ◌≤◌, ◌<◌}
 use native.Mathlib.Omega.{arith}
 use mathlib.Core.Path.{◌≡◌, refl, sym, ap, ap₂, ◌∙◌}
 use mathlib.Core.Bool.{true, not}
-use mathlib.Core.List.{List, [], ◌∷◌, ◌++◌, append_assoc}
+use mathlib.Core.List.{List, [], ◌∷◌, ◌++◌}
 use lib.ListN.{length, get_or, take, drop, take-append-drop, length-drop}
-use lib.Seq.{drop-cons, drop-drop, length-take-le, take_all, get_or-take}
+use lib.Seq.{drop-cons, length-take-le, take_all, get_or-take}
 use lib.Dec.{eqb}
 use borrow.Author.Tests.{eqb-true}
 use Rattle.ledger.specs.Tally.{one_if}
@@ -15,14 +15,14 @@ use Rattle.ledger.proofs.Lists.{listed-length, listed_back}
 use Rattle.octets.specs.Numbers.{be16_at, be32_at, be16, be32}
 use Rattle.octets.specs.Runs.{Bytes, part}
 use Rattle.octets.proofs.Runs.{part_length, part_bytes, part_add}
-use Rattle.octets.proofs.Numbers.{be16_at-part, be32_at-part, be16_back, be32_back}
+use Rattle.octets.proofs.Numbers.{be32_at-part, be16_back, be32_back}
 use Rattle.octets.specs.Blocks.{pad_to}
 use Rattle.paper.specs.Base.{number_of, Slot, state_of, stream_total, mac_size}
 use Rattle.paper.proofs.StateNumbers.{state-told}
-use Rattle.table_image.specs.Layout.{ppa_base, slot_base, bit, ppa_from, stream_from, waiting_from, further_from, mask_in, slot_at, ppa_at, table_of, mask_of}
-use Rattle.table_image.specs.Layout.{ppa_bytes, stream_bytes, waiting_bytes, further_bytes, slot_bytes, header_bytes, image_of, is_state, tidy, memory_offset}
+use Rattle.table_image.specs.Layout.{ppa_base, slot_base, bit, ppa_from, stream_from, waiting_from, mask_in, slot_at, ppa_at, table_of, mask_of}
+use Rattle.table_image.specs.Layout.{ppa_bytes, stream_bytes, waiting_bytes, slot_bytes, header_bytes, image_of, is_state, tidy, memory_offset}
 use Rattle.table_image.specs.Layout.{ppa_count_offset, places_offset, place_size, places_size, count_offset, numbers_offset, numbers_size}
-use Rattle.table_image.specs.Layout.{further_count_offset, further_offset, further_size, further_base, slot_size, slots_offset, slots_size, image_size, number_base, ppa_part, slot_part}
+use Rattle.table_image.specs.Layout.{slot_size, slots_offset, slots_size, image_size, number_base, ppa_part, slot_part}
 use Rattle.table_image.proofs.Bits.{mask_only}
 use Rattle.octets.proofs.Pieces.{joined-listed, pad-listed}
 use Rattle.table_image.proofs.TableBack.{slot-at}
@@ -50,12 +50,6 @@ module _ (c : List ℕ) (h : Bytes c) where
       ∙ front r 4 (omega arith)
       ∙ take_all 4 r (omega arith)
 
-  sap_again : (at : ℕ) → at + 2 ≤ length c → be16 (be16_at c at) ≡ part c at 2
-  sap_again at b =
-      let r : List ℕ = part c at 2 in
-      let l : length r ≡ 2 = part_length c at 2 b in
-      ap be16 (sym (be16_at-part c at)) ∙ be16_back (get_or r 0 0) (get_or r 1 0) (part_bytes c at 2 h 1) ∙ front r 2 (omega arith) ∙ take_all 2 r (omega arith)
-
   ppa_again : length c ≡ place_size → ppa_bytes (ppa_from c) ≡ c
   unfolding ppa_from
   ppa_again e =
@@ -81,23 +75,10 @@ module _ (c : List ℕ) (h : Bytes c) where
         pad-listed be32 g c 4 numbers_offset n numbers_size (λ k b. number_again (number_base k) (omega (arith, t.eight))) (omega (arith, t.eight)) (omega arith) t.unused in
         (λ i. listed-length g 0 n i ∷ p i)
 
-    further_again : further_bytes (further_from c) ≡ drop further_count_offset c
-    unfolding further_bytes further_from
-    further_again =
-        let n : ℕ = get_or c further_count_offset 0 in
-        let g : ℕ → ℕ = λ k. be16_at c (further_base k) in
-        let p : pad_to further_size (joined be16 (listed g 0 n)) ≡ part c further_offset further_size =
-        pad-listed be16 g c 2 further_offset n further_size (λ k b. sap_again (further_base k) (omega (arith, t.four))) (omega (arith, t.four)) (omega arith) t.free in
-        let r : part c further_offset further_size ≡ drop further_offset c = take_all further_size (drop further_offset c) (omega (arith, length-drop further_offset c)) in
-        (λ i. listed-length g 0 n i ∷ (p ∙ r) i) ∙ sym (drop-cons c further_count_offset 0 (omega arith))
-
-    slot_again : stream_bytes (stream_from c) ++ waiting_bytes (waiting_from c) ++ further_bytes (further_from c) ≡ c
+    slot_again : stream_bytes (stream_from c) ++ waiting_bytes (waiting_from c) ≡ c
     slot_again =
-        let r : part c numbers_offset numbers_size ++ drop further_count_offset c ≡ drop numbers_offset c =
-        ap (λ (l : List ℕ). part c numbers_offset numbers_size ++ l) (sym (drop-drop numbers_size numbers_offset c)) ∙ take-append-drop numbers_size (drop numbers_offset c) in
-        let q : stream_bytes (stream_from c) ++ (waiting_bytes (waiting_from c) ++ further_bytes (further_from c)) ≡ c =
-        rw (stream_again, waiting_again, further_again, r, ← drop-cons c count_offset 0 (omega arith)) (take-append-drop count_offset c) in
-        append_assoc (stream_bytes (stream_from c)) (waiting_bytes (waiting_from c)) (further_bytes (further_from c)) ∙ q
+        let r : part c numbers_offset numbers_size ≡ drop numbers_offset c = take_all numbers_size (drop numbers_offset c) (omega (arith, length-drop numbers_offset c)) in
+        rw (stream_again, waiting_again, r, ← drop-cons c count_offset 0 (omega arith)) (take-append-drop count_offset c)
 
 -- ---- the image
 

@@ -1,20 +1,18 @@
--- How long the bytes of a shaped table's parts are, and that a stream, its open numbers, its further SAPs and the counter can change
--- within its shape.
-use Prim.Native.Nat.{ℕ, ◌+◌, ◌*◌, ◌≤◌, ◌<◌}
+-- How long the bytes of a shaped table's parts are, and that a stream, its open numbers and the counter can change within its shape.
+use Prim.Native.Nat.{ℕ, ◌*◌, ◌≤◌, ◌<◌}
 use native.Mathlib.Omega.{arith}
 use mathlib.Core.Path.{◌≡◌, refl, ◌∙◌}
-use mathlib.Core.List.{List, ◌++◌}
+use mathlib.Core.List.{List}
 use lib.ListN.{length, get_or, length-append, length-set}
 use lib.Dec.{eqb}
 use mathlib.Core.Bool.{true}
-use Rattle.octets.specs.Numbers.{be16}
 use Rattle.octets.specs.Blocks.{flat}
 use Rattle.octets.proofs.Blocks.{flat-length, pad-length}
-use Rattle.paper.specs.Base.{Slot, Table, slot, waiting, closed, no_ppa, with_slot, with_stream, with_numbers, with_further, with_counter, mac_of, stream_total, mac_size, most_further, stream, further}
+use Rattle.paper.specs.Base.{Slot, Table, slot, waiting, closed, no_ppa, with_slot, with_stream, with_numbers, with_counter, mac_of, stream_total, mac_size, stream}
 use Rattle.paper.specs.declared.Stream.{Stream}
 use Rattle.paper.specs.declared.Ppa.{Ppa}
 use Rattle.paper.specs.declared.PpaNumber.{PpaNumber}
-use Rattle.table_image.specs.Layout.{ppa_bytes, stream_bytes, waiting_bytes, further_bytes, slot_bytes, header_bytes, image_of, place_size, places_size, count_offset, numbers_size, further_count_offset, further_size, slot_size, slots_offset, image_size}
+use Rattle.table_image.specs.Layout.{ppa_bytes, stream_bytes, waiting_bytes, slot_bytes, header_bytes, image_of, place_size, places_size, count_offset, numbers_size, slot_size, slots_offset, image_size}
 use Rattle.table_image.specs.Shape.{Shaped}
 use Rattle.octets.proofs.Pieces.{joined_length}
 use Rattle.ledger.proofs.Lists.{each_set}
@@ -30,32 +28,17 @@ pub stream-length : (s : Stream) → length (stream_bytes s) ≡ count_offset
 unfolding stream_bytes
 stream-length s = refl
 
--- with those of its open numbers,
-pub numbers-length : (s : Stream) (w : List ℕ) → length w ≤ most_open → length (stream_bytes s ++ waiting_bytes w) ≡ further_count_offset
+-- with those of its open numbers
+pub slot-length : (x : Slot) → length x.waiting ≤ most_open → length (slot_bytes x) ≡ slot_size
 unfolding waiting_bytes
-numbers-length s w h =
-    let p = pad-length numbers_size (flat w) (omega (arith, flat-length w)) in
-    omega (arith, stream-length s, length-append (stream_bytes s) (waiting_bytes w))
-
--- of its further SAPs,
-pub further-length : (f : List ℕ) → length f ≤ most_further → length (further_bytes f) ≡ 1 + further_size
-unfolding further_bytes
-further-length f h = omega (arith, pad-length further_size (joined be16 f) (omega (arith, joined_length be16 0 2 f (λ k. refl))))
-
--- and with both
-pub slot-length : (x : Slot) → length x.waiting ≤ most_open → length x.further ≤ most_further → length (slot_bytes x) ≡ slot_size
-slot-length x h g =
-    omega (
-      arith,
-      length-append (stream_bytes x.stream ++ waiting_bytes x.waiting) (further_bytes x.further),
-      numbers-length x.stream x.waiting h,
-      further-length x.further g,
-    )
+slot-length x h =
+    let p = pad-length numbers_size (flat x.waiting) (omega (arith, flat-length x.waiting)) in
+    omega (arith, stream-length x.stream, length-append (stream_bytes x.stream) (waiting_bytes x.waiting))
 
 module _ (t : Table) (s : Shaped t) where
   -- the bytes of slot i
   pub slots-wide : (i : ℕ) → length (slot_bytes (slot t i)) ≡ slot_size
-  slots-wide i = slot-length (slot t i) (s.eight i) (s.four i)
+  slots-wide i = slot-length (slot t i) (s.eight i)
 
   -- the bytes of PPA k
   pub ppas-wide : (k : ℕ) → length (ppa_bytes (get_or t.ppas k no_ppa)) ≡ place_size
@@ -79,36 +62,30 @@ module _ (t : Table) (s : Shaped t) where
 
   -- ---- updates
 
-  -- a slot with no more open numbers and further SAPs than there are places for
-  shaped-slot : (i : ℕ) (x : Slot) → length x.waiting ≤ most_open → length x.further ≤ most_further → Shaped (with_slot t i x)
+  -- a slot with no more open numbers than there are places for
+  shaped-slot : (i : ℕ) (x : Slot) → length x.waiting ≤ most_open → Shaped (with_slot t i x)
   unfolding with_slot
-  shaped-slot i x h g = record {
+  shaped-slot i x h = record {
     sixteen = length-set t.slots i x ∙ s.sixteen;
     few = s.few;
     macs = s.macs;
     eight = each_set (λ (y : Slot). length y.waiting ≤ most_open) t.slots i x closed s.eight h;
-    four = each_set (λ (y : Slot). length y.further ≤ most_further) t.slots i x closed s.four g;
   }
 
   -- a stream with its open numbers
   pub shaped-numbers : (i : ℕ) (q : Stream) (w : List ℕ) → length w ≤ most_open → Shaped (with_numbers t i q w)
   unfolding with_numbers
-  shaped-numbers i q w h = shaped-slot i (record { is_open = (slot t i).is_open; stream = q; waiting = w; further = further t i }) h (s.four i)
+  shaped-numbers i q w h = shaped-slot i (record { is_open = (slot t i).is_open; stream = q; waiting = w }) h
 
   -- a stream alone
   pub shaped-stream : (i : ℕ) (q : Stream) → Shaped (with_stream t i q)
   unfolding with_stream
   shaped-stream i q = shaped-numbers i q (waiting t i) (s.eight i)
 
-  -- its further SAPs
-  pub shaped-further : (i : ℕ) (f : List ℕ) → length f ≤ most_further → Shaped (with_further t i f)
-  unfolding with_further
-  shaped-further i f g = shaped-slot i (record { is_open = (slot t i).is_open; stream = stream t i; waiting = waiting t i; further = f }) (s.eight i) g
-
   -- the counter
   pub shaped-counter : (n : ℕ) → Shaped (with_counter t n)
   unfolding with_counter
-  shaped-counter n = record { sixteen = s.sixteen; few = s.few; macs = s.macs; eight = s.eight; four = s.four }
+  shaped-counter n = record { sixteen = s.sixteen; few = s.few; macs = s.macs; eight = s.eight }
 
 -- a MAC of a shaped table has six bytes
 pub mac-length : (t : Table) → Shaped t → (p : PpaNumber) → length (mac_of t p) ≡ mac_size

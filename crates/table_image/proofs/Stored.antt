@@ -3,7 +3,7 @@ use Prim.Native.Nat.{ℕ, suc, ◌+◌, ◌-◌, ◌^◌, ◌≤◌, ◌<◌}
 use native.Mathlib.Omega.{arith}
 use mathlib.Core.Path.{◌≡◌, refl, sym, ap, ap₂, ◌∙◌}
 use mathlib.Core.Bool.{Bool, true}
-use mathlib.Core.List.{List, [], ◌∷◌, ◌++◌, append_assoc, append-nil}
+use mathlib.Core.List.{List, [], ◌∷◌, ◌++◌, append-nil}
 use lib.ListN.{length, set, replicate, length-append}
 use Rattle.ledger.specs.Tally.{one_if}
 use Rattle.ledger.specs.Lists.{joined}
@@ -11,16 +11,16 @@ use Rattle.ledger.proofs.Lists.{joined-more, joined-kept}
 use Rattle.octets.specs.Numbers.{be16, be32}
 use Rattle.octets.specs.Runs.{paste}
 use Rattle.octets.specs.Blocks.{pad_to}
-use Rattle.paper.specs.Base.{Slot, Table, slot, stream, waiting, further, closed, just_opened, with_slot, with_stream, with_numbers, with_further, with_counter, with_ppa, remembering, stream_total, most_ppas, most_further, mac_size}
+use Rattle.paper.specs.Base.{Slot, Table, slot, stream, waiting, closed, just_opened, with_slot, with_stream, with_numbers, with_counter, with_ppa, remembering, stream_total, most_ppas, mac_size}
 use Rattle.paper.specs.declared.Stream.{Stream}
 use Rattle.paper.specs.declared.Ppa.{Ppa}
-use Rattle.table_image.specs.Layout.{ppa_base, slot_base, mask_of, ppa_bytes, stream_bytes, waiting_bytes, further_bytes, slot_bytes, header_bytes, image_of}
-use Rattle.table_image.specs.Layout.{mask_offset, ppa_count_offset, counter_offset, places_size, further_count_offset, slot_size, slots_offset}
+use Rattle.table_image.specs.Layout.{ppa_base, slot_base, mask_of, ppa_bytes, stream_bytes, waiting_bytes, slot_bytes, header_bytes, image_of}
+use Rattle.table_image.specs.Layout.{mask_offset, ppa_count_offset, counter_offset, places_size, slot_size, slots_offset}
 use Rattle.table_image.specs.Shape.{Shaped}
 use Rattle.table_image.proofs.Bits.{mask_kept, mask_opened, mask_closed}
 use Rattle.octets.proofs.Pieces.{joined-paste}
 use Rattle.octets.proofs.Blocks.{pad-more}
-use Rattle.table_image.proofs.Shapes.{stream-length, numbers-length, further-length, slots-wide, ppas-length, header_length}
+use Rattle.table_image.proofs.Shapes.{stream-length, slot-length, slots-wide, ppas-length, header_length}
 use Rattle.paper.specs.Saps.{most_open}
 
 -- the first eight bytes: a mask, a memory of openings, a count of PPAs, a counter
@@ -35,30 +35,28 @@ module _ (t : Table) (s : Shaped t) (i : ℕ) (b : i < stream_total) where
   inside : i < length t.slots
   inside = omega (arith, s.sixteen)
 
-  -- bytes c over the part a of slot i behind p, which is x then, behind any mask
-  over-part : (m : ℕ) (x : Slot) (at : ℕ) (p a c z : List ℕ) → slot_base i + length p ≡ at → slot_bytes (slot t i) ≡ p ++ a ++ z → slot_bytes x ≡ p ++ c ++ z → length a ≡ length c
-      → paste (headed m t.remembers t ++ joined slot_bytes t.slots) at c
+  -- bytes c over the front a of slot i, which is x then, behind any mask
+  front : (m : ℕ) (x : Slot) (a c z : List ℕ) → slot_bytes (slot t i) ≡ a ++ z → slot_bytes x ≡ c ++ z → length a ≡ length c
+      → paste (headed m t.remembers t ++ joined slot_bytes t.slots) (slot_base i) c
       ≡ headed m t.remembers t ++ joined slot_bytes (set t.slots i x)
   unfolding header_bytes
-  over-part m x at p a c z h e f g =
-      joined-paste slot_bytes closed slot_size (headed m t.remembers t) slots_offset t.slots i (header_length t s) (slots-wide t s) inside x at p a c z h e f g
+  front m x a c z e f g =
+      joined-paste slot_bytes closed slot_size (headed m t.remembers t) slots_offset t.slots i (header_length t s) (slots-wide t s) inside x a c z e f g
 
   -- the same, where the slot stays open or closed
-  store_part : (x : Slot) (at : ℕ) (p a c z : List ℕ) → slot_base i + length p ≡ at → x.is_open ≡ (slot t i).is_open → slot_bytes (slot t i) ≡ p ++ a ++ z → slot_bytes x ≡ p ++ c ++ z
-      → length a ≡ length c → paste (image_of t) at c ≡ image_of (with_slot t i x)
+  store_front : (x : Slot) (a c z : List ℕ) → x.is_open ≡ (slot t i).is_open → slot_bytes (slot t i) ≡ a ++ z → slot_bytes x ≡ c ++ z
+      → length a ≡ length c → paste (image_of t) (slot_base i) c ≡ image_of (with_slot t i x)
   unfolding image_of header_bytes with_slot
-  store_part x at p a c z h o e f g =
-      over-part (mask_of t.slots) x at p a c z h e f g
+  store_front x a c z o e f g =
+      front (mask_of t.slots) x a c z e f g
       ∙ ap (λ (m : ℕ). headed m t.remembers t ++ joined slot_bytes (set t.slots i x)) (sym (mask_kept t.slots i x inside o))
 
-  -- a stream without its open numbers and its further SAPs
+  -- a stream without its open numbers
   pub store_stream : (q : Stream) → paste (image_of t) (slot_base i) (stream_bytes q) ≡ image_of (with_stream t i q)
   unfolding with_stream with_numbers
   store_stream q =
-      store_part (record { is_open = (slot t i).is_open; stream = q; waiting = waiting t i; further = further t i }) (slot_base i)
-      [] (stream_bytes (stream t i)) (stream_bytes q) (waiting_bytes (waiting t i) ++ further_bytes (further t i)) (omega arith) refl
-      (append_assoc (stream_bytes (stream t i)) (waiting_bytes (waiting t i)) (further_bytes (further t i)))
-      (append_assoc (stream_bytes q) (waiting_bytes (waiting t i)) (further_bytes (further t i)))
+      store_front (record { is_open = (slot t i).is_open; stream = q; waiting = waiting t i })
+      (stream_bytes (stream t i)) (stream_bytes q) (waiting_bytes (waiting t i)) refl refl refl
       (stream-length (stream t i) ∙ sym (stream-length q))
 
   -- a stream with them
@@ -66,20 +64,9 @@ module _ (t : Table) (s : Shaped t) (i : ℕ) (b : i < stream_total) where
       → paste (image_of t) (slot_base i) (stream_bytes q ++ waiting_bytes w) ≡ image_of (with_numbers t i q w)
   unfolding with_numbers
   store_numbers q w h =
-      store_part (record { is_open = (slot t i).is_open; stream = q; waiting = w; further = further t i }) (slot_base i)
-      [] (stream_bytes (stream t i) ++ waiting_bytes (waiting t i)) (stream_bytes q ++ waiting_bytes w) (further_bytes (further t i)) (omega arith) refl refl refl
-      (numbers-length (stream t i) (waiting t i) (s.eight i) ∙ sym (numbers-length q w h))
-
-  -- its further SAPs
-  pub store_further : (f : List ℕ) → length f ≤ most_further
-      → paste (image_of t) (slot_base i + further_count_offset) (further_bytes f) ≡ image_of (with_further t i f)
-  unfolding with_further
-  store_further f h =
-      let p : List ℕ = stream_bytes (stream t i) ++ waiting_bytes (waiting t i) in
-      store_part (record { is_open = (slot t i).is_open; stream = stream t i; waiting = waiting t i; further = f }) (slot_base i + further_count_offset)
-      p (further_bytes (further t i)) (further_bytes f) [] (omega (arith, numbers-length (stream t i) (waiting t i) (s.eight i))) refl
-      (sym (append-nil (p ++ further_bytes (further t i)))) (sym (append-nil (p ++ further_bytes f)))
-      (further-length (further t i) (s.four i) ∙ sym (further-length f h))
+      let x : Slot = record { is_open = (slot t i).is_open; stream = q; waiting = w } in
+      store_front x (slot_bytes (slot t i)) (slot_bytes x) [] refl (sym (append-nil (slot_bytes (slot t i)))) (sym (append-nil (slot_bytes x)))
+      (slots-wide t s i ∙ sym (slot-length x h))
 
   -- a stream is opened: its bit is taken out of the mask, and the table remembers an opening
   pub store_opening : slot t i ≡ closed
@@ -93,9 +80,9 @@ module _ (t : Table) (s : Shaped t) (i : ℕ) (b : i < stream_total) where
   -- a stream is closed: its bit is put into the mask, and its slot is zero
   pub store_closing : (slot t i).is_open ≡ true
       → paste (paste (image_of t) mask_offset (be16 (mask_of t.slots + 2 ^ i))) (slot_base i) (replicate slot_size 0) ≡ image_of (with_slot t i closed)
-  unfolding image_of header_bytes with_slot stream_bytes waiting_bytes further_bytes
+  unfolding image_of header_bytes with_slot stream_bytes waiting_bytes
   store_closing e =
-      over-part (mask_of t.slots + 2 ^ i) closed (slot_base i) [] (slot_bytes (slot t i)) (replicate slot_size 0) [] (omega arith)
+      front (mask_of t.slots + 2 ^ i) closed (slot_bytes (slot t i)) (replicate slot_size 0) []
       (sym (append-nil (slot_bytes (slot t i)))) refl (slots-wide t s i)
       ∙ ap (λ (m : ℕ). headed m t.remembers t ++ joined slot_bytes (set t.slots i closed))
       (sym (mask_closed t.slots i closed inside e refl))

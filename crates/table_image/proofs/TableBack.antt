@@ -4,28 +4,27 @@ use native.Mathlib.Omega.{arith}
 use mathlib.Core.Path.{◌≡◌, refl, sym, ap, ◌∙◌}
 use mathlib.Core.Bool.{Bool, true, false, not}
 use mathlib.Core.List.{List, [], ◌∷◌, ◌++◌, append_assoc, append-nil}
-use lib.ListN.{length, get_or, take, drop, replicate, length-append, take-append-drop}
-use lib.Seq.{take_all, take_at, drop_at, drop-drop}
+use lib.ListN.{length, get_or, replicate}
+use lib.Seq.{take_all}
 use lib.Dec.{eqb}
 use Rattle.ledger.specs.Tally.{one_if}
 use Rattle.ledger.specs.Lists.{listed, joined}
-use Rattle.ledger.proofs.Lists.{listed_at, listed_back, tail_at}
-use Rattle.octets.specs.Numbers.{be16_at, be32_at, be16, be32}
-use Rattle.octets.specs.Runs.{part}
+use Rattle.ledger.proofs.Lists.{listed_at, listed_back}
+use Rattle.octets.specs.Numbers.{be32_at, be32}
 use Rattle.octets.specs.Blocks.{flat}
-use Rattle.octets.proofs.Numbers.{be16_at-be16, be32_at-be32, be16_at-part, be32_at-part}
+use Rattle.octets.proofs.Numbers.{be16_at-be16, be32_at-be32, be32_at-part}
 use Rattle.paper.specs.Base.{Slot, Table, slot, closed, no_ppa, stream_total, mac_size, stream, waiting}
 use Rattle.paper.specs.declared.Stream.{Stream}
 use Rattle.paper.specs.declared.Ppa.{Ppa}
 use Rattle.paper.proofs.StateNumbers.{state_back}
-use Rattle.table_image.specs.Layout.{bit, ppa_from, stream_from, waiting_from, further_from, mask_in, slot_at, ppa_at, table_of, mask_of, ppa_bytes}
-use Rattle.table_image.specs.Layout.{stream_bytes, waiting_bytes, further_bytes, slot_bytes, header_bytes, image_of, memory_offset, ppa_count_offset}
+use Rattle.table_image.specs.Layout.{bit, ppa_from, stream_from, waiting_from, mask_in, slot_at, ppa_at, table_of, mask_of, ppa_bytes}
+use Rattle.table_image.specs.Layout.{stream_bytes, waiting_bytes, slot_bytes, header_bytes, image_of, memory_offset, ppa_count_offset}
 use Rattle.table_image.specs.Layout.{counter_offset, places_offset, place_size, places_size, numbers_offset, numbers_size, slot_size}
-use Rattle.table_image.specs.Layout.{further_count_offset, further_offset, further_size, slots_offset, slot_base, number_base, further_base, ppa_part, slot_part}
+use Rattle.table_image.specs.Layout.{slots_offset, number_base, ppa_part, slot_part}
 use Rattle.table_image.specs.Shape.{Shaped}
 use Rattle.table_image.proofs.Bits.{mask_bit}
 use Rattle.octets.proofs.Pieces.{joined_at}
-use Rattle.table_image.proofs.Shapes.{numbers-length, slots-wide, ppas-wide, header_length}
+use Rattle.table_image.proofs.Shapes.{slots-wide, ppas-wide, header_length}
 use Rattle.table_image.proofs.Stored.{first_bytes}
 
 -- a stream of the table that an image holds
@@ -50,32 +49,16 @@ stream_back s r =
       granted = s.granted;
     }
 
-waiting_back : (s : Stream) (w r : List ℕ) → waiting_from (stream_bytes s ++ waiting_bytes w ++ r) ≡ w
+waiting_back : (s : Stream) (w : List ℕ) → waiting_from (stream_bytes s ++ waiting_bytes w) ≡ w
 unfolding waiting_from stream_bytes waiting_bytes
-waiting_back s w r =
-    let c : List ℕ = stream_bytes s ++ waiting_bytes w ++ r in
+waiting_back s w =
+    let c : List ℕ = stream_bytes s ++ waiting_bytes w in
     let first : List ℕ = stream_bytes s ++ (length w ∷ []) in
     let zeros : List ℕ = replicate (numbers_size - length (flat w)) 0 in
     listed_back (λ k. be32_at c (number_base k)) w (length w) 0 refl λ k h.
     sym (be32_at-part c (number_base k))
-    ∙ ap (λ (q : List ℕ). be32_at (part (first ++ q) (number_base k) 4) 0) (append_assoc (flat w) zeros r)
-    ∙ ap (λ (q : List ℕ). be32_at q 0) (joined_at be32 0 4 first numbers_offset w k refl (λ i. refl) h (zeros ++ r))
+    ∙ ap (λ (r : List ℕ). be32_at r 0) (joined_at be32 0 4 first numbers_offset w k refl (λ i. refl) h zeros)
     ∙ be32_at-be32 (get_or w k 0) []
-
--- further SAPs stand behind so many bytes
-further_back : (a f : List ℕ) → length a ≡ further_count_offset → further_from (a ++ further_bytes f) ≡ f
-unfolding further_from further_bytes
-further_back a f h =
-    let c : List ℕ = a ++ further_bytes f in
-    let first : List ℕ = a ++ (length f ∷ []) in
-    let zeros : List ℕ = replicate (further_size - length (joined be16 f)) 0 in
-    let count : get_or c further_count_offset 0 ≡ length f = tail_at a (further_bytes f) further_count_offset 0 (omega arith) in
-    ap (listed (λ k. be16_at c (further_base k)) 0) count
-    ∙ listed_back (λ k. be16_at c (further_base k)) f (length f) 0 refl λ k b.
-    sym (be16_at-part c (further_base k))
-    ∙ ap (λ (q : List ℕ). be16_at (part q (further_base k) 2) 0) (sym (append_assoc a (length f ∷ []) (joined be16 f ++ zeros)))
-    ∙ ap (λ (q : List ℕ). be16_at q 0) (joined_at be16 0 2 first further_offset f k (omega (arith, length-append a (length f ∷ []))) (λ i. refl) b zeros)
-    ∙ be16_at-be16 (get_or f k 0) []
 
 ppa_back : (p : Ppa) → length p.mac ≡ mac_size → ppa_from (ppa_bytes p) ≡ p
 unfolding ppa_from
@@ -118,18 +101,6 @@ module _ (t : Table) (s : Shaped t) where
       ap (λ (r : List ℕ). slot_part (header_bytes t ++ r) i) (sym (append-nil (joined slot_bytes t.slots)))
       ∙ joined_at slot_bytes closed slot_size (header_bytes t) slots_offset t.slots i (header_length t s) (slots-wide t s) (omega (arith, s.sixteen)) []
 
-  -- some of them, which stand behind others
-  pub slot_run : (i : ℕ) → i < stream_total → (p c q : List ℕ) (at n : ℕ) → slot_bytes (slot t i) ≡ p ++ c ++ q → slot_base i + length p ≡ at → length c ≡ n
-      → part (image_of t) at n ≡ c
-  slot_run i b p c q at n e f g =
-      let from : List ℕ = drop (slot_base i) (image_of t) in
-      let rest : List ℕ = q ++ drop slot_size from in
-      let split : from ≡ p ++ (c ++ rest) =
-      sym (take-append-drop slot_size from) ∙ ap (λ (r : List ℕ). r ++ drop slot_size from) (slot-part i b ∙ e) ∙ simp append_assoc in
-      ap (λ (k : ℕ). part (image_of t) k n) (sym f)
-      ∙ ap (take n) (sym (drop-drop (length p) (slot_base i) (image_of t)) ∙ ap (drop (length p)) split ∙ drop_at p (c ++ rest) (length p) refl)
-      ∙ take_at c rest n g
-
   slots_back : (i : ℕ) → i < stream_total → slot_at (image_of t) i ≡ slot t i
   unfolding slot_at
   slots_back i h =
@@ -138,11 +109,8 @@ module _ (t : Table) (s : Shaped t) where
       let m : bit (mask_in (image_of t)) i ≡ one_if (not x.is_open) = rw mask_back (mask_bit t.slots i (omega (arith, s.sixteen))) in
       λ d. record {
         is_open = (ap (λ (n : ℕ). eqb n 0) m ∙ (flag_back x.is_open).1) d;
-        stream = (ap stream_from (c ∙ append_assoc (stream_bytes x.stream) (waiting_bytes x.waiting) (further_bytes x.further)) ∙ stream_back x.stream (waiting_bytes x.waiting ++ further_bytes x.further)) d;
-        waiting = (ap waiting_from c ∙ waiting_back x.stream x.waiting (further_bytes x.further)) d;
-        further =
-            (ap further_from c
-            ∙ further_back (stream_bytes x.stream ++ waiting_bytes x.waiting) x.further (numbers-length x.stream x.waiting (s.eight i))) d;
+        stream = (ap stream_from c ∙ stream_back x.stream (waiting_bytes x.waiting)) d;
+        waiting = (ap waiting_from c ∙ waiting_back x.stream x.waiting) d;
       }
 
   -- the image of a table holds that table

@@ -11,14 +11,14 @@ use Rattle.ledger.specs.Choice.{both}
 use Rattle.ledger.specs.Tally.{all_of}
 use Rattle.ledger.proofs.Tallies.{both_of, all_within}
 use Rattle.ledger.proofs.Lists.{listed-length, listed_at, each-listed}
-use Rattle.octets.specs.Numbers.{be16_at, be32_at}
+use Rattle.octets.specs.Numbers.{be32_at}
 use Rattle.octets.specs.Runs.{part, all_zero, are_bytes}
 use Rattle.octets.proofs.Runs.{part_length, of_are_bytes}
-use Rattle.paper.specs.Base.{Slot, closed, no_ppa, stream_total, most_ppas, mac_size, most_further, waiting}
+use Rattle.paper.specs.Base.{Slot, closed, no_ppa, stream_total, most_ppas, mac_size, waiting}
 use Rattle.paper.specs.declared.Ppa.{Ppa}
-use Rattle.table_image.specs.Layout.{image_size, ppa_base, ppa_from, waiting_from, further_from, slot_at, ppa_at, table_of, is_state, tidy_slot, slot_parts}
+use Rattle.table_image.specs.Layout.{image_size, ppa_base, ppa_from, waiting_from, slot_at, ppa_at, table_of, is_state, tidy_slot, slot_parts}
 use Rattle.table_image.specs.Layout.{tidy_ppas, tidy, memory_offset, ppa_count_offset, place_size, places_size, state_offset, count_offset}
-use Rattle.table_image.specs.Layout.{numbers_size, further_count_offset, further_size, number_base, further_base, ppa_part, slot_part}
+use Rattle.table_image.specs.Layout.{numbers_size, number_base, ppa_part, slot_part}
 use Rattle.table_image.specs.Shape.{Shaped}
 use Rattle.paper.specs.Saps.{most_open}
 
@@ -29,8 +29,6 @@ pub record TidySlot (c : List ℕ) : Type 0 where
   pub state : is_state (get_or c state_offset 0) ≡ true
   pub eight : get_or c count_offset 0 ≤ most_open
   pub unused : all_zero (part c (number_base (get_or c count_offset 0)) (numbers_size - get_or c count_offset 0 * 4)) ≡ true
-  pub four : get_or c further_count_offset 0 ≤ most_further
-  pub free : all_zero (part c (further_base (get_or c further_count_offset 0)) (further_size - get_or c further_count_offset 0 * 2)) ≡ true
 
 -- of an image
 pub record Tidy (img : List ℕ) : Type 0 where
@@ -51,14 +49,10 @@ slot_parts_lem : (c : List ℕ) → tidy_slot c ≡ true → TidySlot c
 unfolding tidy_slot
 slot_parts_lem c h =
     let n : ℕ = get_or c count_offset 0 in
-    let k : ℕ = get_or c further_count_offset 0 in
     let z : Bool = all_zero (part c (number_base n) (numbers_size - n * 4)) in
-    let y : Bool = all_zero (part c (further_base k) (further_size - k * 2)) in
-    let a = both_of (is_state (get_or c state_offset 0)) (both (both (leb n most_open) z) (both (leb k most_further) y)) h in
-    let b = both_of (both (leb n most_open) z) (both (leb k most_further) y) a.1 in
-    let d = both_of (leb n most_open) z b.0 in
-    let e = both_of (leb k most_further) y b.1 in
-    record { state = a.0; eight = leb-true n most_open d.0; unused = d.1; four = leb-true k most_further e.0; free = e.1 }
+    let a = both_of (is_state (get_or c state_offset 0)) (both (leb n most_open) z) h in
+    let b = both_of (leb n most_open) z a.1 in
+    record { state = a.0; eight = leb-true n most_open b.0; unused = b.1 }
 
 -- an image that passes the test has those parts
 pub tidy_parts : (img : List ℕ) → tidy img ≡ true → Tidy img
@@ -93,12 +87,6 @@ waiting_few img i s =
     let c : List ℕ = slot_part img i in
     omega (arith, listed-length (λ k. be32_at c (number_base k)) 0 (get_or c count_offset 0), s.eight)
 
-further-few : (img : List ℕ) (i : ℕ) → TidySlot (slot_part img i) → length (slot_at img i).further ≤ most_further
-unfolding slot_at further_from
-further-few img i s =
-    let c : List ℕ = slot_part img i in
-    omega (arith, listed-length (λ k. be16_at c (further_base k)) 0 (get_or c further_count_offset 0), s.four)
-
 -- the table in a tidy image is shaped
 pub shaped-table : (img : List ℕ) → tidy img ≡ true → Shaped (table_of img)
 unfolding table_of
@@ -111,6 +99,4 @@ shaped-table img h =
       macs = each-listed (λ (p : Ppa). length p.mac ≡ mac_size) (ppa_at img) 0 n no_ppa (λ k b. ppa-mac img k (omega (arith, t.size, t.few))) refl;
       eight =
           each-listed (λ (x : Slot). length x.waiting ≤ most_open) (slot_at img) 0 stream_total closed (λ i b. waiting_few img i (t.slots i (omega arith))) (omega arith);
-      four =
-          each-listed (λ (x : Slot). length x.further ≤ most_further) (slot_at img) 0 stream_total closed (λ i b. further-few img i (t.slots i (omega arith))) (omega arith);
     }

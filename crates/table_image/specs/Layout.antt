@@ -6,7 +6,7 @@ use Rattle.ledger.specs.Lists.{listed, joined}
 use Rattle.octets.specs.Numbers.{be16_at, be32_at, be16, be32}
 use Rattle.octets.specs.Runs.{part, all_zero, are_bytes}
 use Rattle.octets.specs.Blocks.{flat, pad_to}
-use Rattle.paper.specs.Base.{number_of, state_of, stream_total, most_ppas, mac_size, most_further, Slot, Table, every_state, stream, waiting}
+use Rattle.paper.specs.Base.{number_of, state_of, stream_total, most_ppas, mac_size, Slot, Table, every_state, stream, waiting}
 use Rattle.paper.specs.Saps.{most_open}
 use Rattle.paper.specs.Sound.{sound}
 use Rattle.paper.specs.declared.Stream.{Stream}
@@ -65,18 +65,8 @@ numbers_offset = count_offset + 1
 abbrev pub numbers_size : ℕ
 numbers_size = most_open * 4
 
--- behind them the count of its further SAPs and these
-abbrev pub further_count_offset : ℕ
-further_count_offset = numbers_offset + numbers_size
-
-abbrev pub further_offset : ℕ
-further_offset = further_count_offset + 1
-
-abbrev pub further_size : ℕ
-further_size = most_further * 2
-
 abbrev pub slot_size : ℕ
-slot_size = further_offset + further_size
+slot_size = numbers_offset + numbers_size
 
 -- the slots end the image
 abbrev pub slots_offset : ℕ
@@ -88,7 +78,7 @@ slots_size = stream_total * slot_size
 abbrev pub image_size : ℕ
 image_size = slots_offset + slots_size
 
--- where the place of PPA k begins, the slot of stream i, open number k and further SAP k in a slot
+-- where the place of PPA k begins, the slot of stream i, and open number k in a slot
 abbrev pub ppa_base : ℕ → ℕ
 ppa_base k = k * place_size + places_offset
 
@@ -97,9 +87,6 @@ slot_base i = i * slot_size + slots_offset
 
 abbrev pub number_base : ℕ → ℕ
 number_base k = k * 4 + numbers_offset
-
-abbrev pub further_base : ℕ → ℕ
-further_base k = k * 2 + further_offset
 
 -- their bytes
 abbrev pub ppa_part : List ℕ → ℕ → List ℕ
@@ -132,9 +119,6 @@ stream_from c =
 unfoldable pub waiting_from : List ℕ → List ℕ
 waiting_from c = listed (λ k. be32_at c (number_base k)) 0 (get_or c count_offset 0)
 
-unfoldable pub further_from : List ℕ → List ℕ
-further_from c = listed (λ k. be16_at c (further_base k)) 0 (get_or c further_count_offset 0)
-
 abbrev pub mask_in : List ℕ → ℕ
 mask_in img = be16_at img mask_offset
 
@@ -144,7 +128,6 @@ slot_at img i =
       is_open = eqb (bit (mask_in img) i) 0;
       stream = stream_from (slot_part img i);
       waiting = waiting_from (slot_part img i);
-      further = further_from (slot_part img i);
     }
 
 unfoldable pub ppa_at : List ℕ → ℕ → Ppa
@@ -177,12 +160,8 @@ stream_bytes s = (number_of s.state ∷ s.mode ∷ []) ++ be16 s.sap ++ be32 s.p
 unfoldable pub waiting_bytes : List ℕ → List ℕ
 waiting_bytes w = length w ∷ pad_to numbers_size (flat w)
 
--- the count of further SAPs, these
-unfoldable pub further_bytes : List ℕ → List ℕ
-further_bytes f = length f ∷ pad_to further_size (joined be16 f)
-
 abbrev pub slot_bytes : Slot → List ℕ
-slot_bytes x = stream_bytes x.stream ++ waiting_bytes x.waiting ++ further_bytes x.further
+slot_bytes x = stream_bytes x.stream ++ waiting_bytes x.waiting
 
 unfoldable pub header_bytes : Table → List ℕ
 header_bytes t =
@@ -200,10 +179,7 @@ is_state n = has n every_state
 unfoldable pub tidy_slot : List ℕ → Bool
 tidy_slot c =
     let n : ℕ = get_or c count_offset 0 in
-    let k : ℕ = get_or c further_count_offset 0 in
-    both (is_state (get_or c state_offset 0))
-    (both (both (leb n most_open) (all_zero (part c (number_base n) (numbers_size - n * 4))))
-    (both (leb k most_further) (all_zero (part c (further_base k) (further_size - k * 2)))))
+    both (is_state (get_or c state_offset 0)) (both (leb n most_open) (all_zero (part c (number_base n) (numbers_size - n * 4))))
 
 abbrev pub slot_parts : List ℕ → List (List ℕ)
 slot_parts img = listed (slot_part img) 0 stream_total

@@ -1,6 +1,6 @@
 -- What is lent to the functions that read a table where it lies, and to those that change it.
 use Rattle.std.specs.Prelude.{ℕ, ◌<◌, ◌≡◌, true, List, length}
-use Rattle.paper.specs.Base.{stream_total, most_ppas, mac_size, most_further, slot, closed, stream, waiting, further}
+use Rattle.paper.specs.Base.{stream_total, most_ppas, mac_size, slot, closed, stream, waiting}
 use Rattle.table_image.specs.Layout.{image_size, table_of, image_of, bit}
 use Rattle.table_image.specs.Shape.{Shaped}
 use Rattle.paper.specs.Saps.{most_open}
@@ -49,15 +49,6 @@ pub record LentNumber (i k : ℕ) (img : List ℕ) : Type 0 where
 pub record NumberPlace (i : ℕ) (img : List ℕ) : Type 0 where
   pub at : LentAt i img
   pub place : length (waiting (table_of img) i) < most_open
-
--- a further SAP of a stream, by its place, and a place for one more
-pub record LentSap (i k : ℕ) (img : List ℕ) : Type 0 where
-  pub at : LentAt i img
-  pub placed : k < length (further (table_of img) i)
-
-pub record FreePlace (i : ℕ) (img : List ℕ) : Type 0 where
-  pub at : LentAt i img
-  pub place : length (further (table_of img) i) < most_further
 
 -- a PPA, by its place; a MAC, and a place for one PPA more
 pub record LentPpa (k : ℕ) (img : List ℕ) : Type 0 where

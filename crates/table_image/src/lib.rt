@@ -1,11 +1,11 @@
 // The table as a lent image: see specs/ for its layout and proofs/ for its laws.
 ghost use Rattle.std.specs.Prelude.{not, ◌≡◌, ◌+◌, ◌-◌, ◌^◌, length};
 ghost use Rattle.ledger.specs.Tally.{one_if, sum_of};
-ghost use Rattle.paper.specs.Base.{Slot, fresh, slot, stream, waiting, further, closed, just_opened, lowest_free, with_slot, with_stream, with_counter, with_ppa, remembering};
+ghost use Rattle.paper.specs.Base.{Slot, fresh, slot, stream, waiting, closed, just_opened, lowest_free, with_slot, with_stream, with_counter, with_ppa, remembering};
 ghost use Rattle.table_image.specs.Layout.{stream_from, mask_in, table_of, stream_bytes, image_of, slot_size};
 ghost use Rattle.table_image.specs.Lent.{Lent, Held, At, LentAt, LentClosed, LentOpen, PpaPlace, Masked};
 
-use paper::{MAC_SIZE, MOST_FURTHER, MOST_OPEN, MOST_PPAS, PpaNumber, STREAM_TOTAL, State, Stream};
+use paper::{MAC_SIZE, MOST_OPEN, MOST_PPAS, PpaNumber, STREAM_TOTAL, State, Stream};
 
 // Sizes and offsets: of the image,
 const MASK_OFFSET: usize = 0;
@@ -41,13 +41,7 @@ pub const NUMBERS_OFFSET: usize = COUNT_OFFSET + 1;
 
 pub const NUMBERS_SIZE: usize = MOST_OPEN * 4;
 
-pub const FURTHER_COUNT_OFFSET: usize = NUMBERS_OFFSET + NUMBERS_SIZE;
-
-pub const FURTHER_OFFSET: usize = FURTHER_COUNT_OFFSET + 1;
-
-pub const FURTHER_SIZE: usize = MOST_FURTHER * 2;
-
-pub const SLOT_SIZE: usize = FURTHER_OFFSET + FURTHER_SIZE;
+pub const SLOT_SIZE: usize = NUMBERS_OFFSET + NUMBERS_SIZE;
 
 pub const IMAGE_SIZE: usize = SLOTS_OFFSET + STREAM_TOTAL * SLOT_SIZE;
 
@@ -116,14 +110,6 @@ pub fn count_at(img: &[u8], i: usize) -> u8
     img[i * SLOT_SIZE + SLOTS_OFFSET + COUNT_OFFSET]
 }
 
-// How many further SAPs a stream has.
-pub fn further_count_at(img: &[u8], i: usize) -> u8
-    requires { At i img.now }
-    ensures { result ≡ length (further (table_of img.now) i) }
-{
-    img[i * SLOT_SIZE + SLOTS_OFFSET + FURTHER_COUNT_OFFSET]
-}
-
 // The bytes of a stream in its slot.
 pub fn stream_bytes(s: Stream) -> [u8; COUNT_OFFSET]
     ensures { result ≡ stream_bytes s }
@@ -144,7 +130,7 @@ pub fn stream_bytes(s: Stream) -> [u8; COUNT_OFFSET]
     ]
 }
 
-// The stream is changed, not its open indications and its further SAPs.
+// The stream is changed, not its open indications.
 pub fn store_stream(img: &mut [u8], i: usize, s: Stream)
     requires { LentAt i img.old }
     ensures { img.new ≡ image_of (with_stream (table_of img.old) i s) }

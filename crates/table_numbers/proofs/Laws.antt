@@ -1,22 +1,22 @@
 -- The open numbers of a stream lie one behind the other with zeros behind them: so one more goes over the first zeros, and where
 -- one goes, those behind it move up.
-use Rattle.std.proofs.Common.{◌≡◌, ℕ, suc, ◌+◌, ◌-◌, ◌*◌, ◌<◌, ◌≤◌, List, [], ◌∷◌, ◌++◌, length, get_or, take, drop, set, replicate, sym, refl, ap, ◌∙◌, ap₂, append_assoc, append-nil, add-one, arith, length-append, length-drop, length-take-le, take_all, drop-cons, take_at, drop_at}
+use Rattle.std.proofs.Common.{◌≡◌, ℕ, suc, ◌+◌, ◌-◌, ◌*◌, ◌<◌, ◌≤◌, List, [], ◌∷◌, ◌++◌, length, get_or, take, drop, set, replicate, sym, ap, ◌∙◌, ap₂, append_assoc, append-nil, add-one, arith, length-append, length-drop, length-take-le, take_all, drop-cons, take_at, drop_at}
 use lib.ListN.{length-replicate, replicate-append-replicate}
 use lib.Seq.{split_at}
 use Rattle.octets.specs.Numbers.{be32_at, be32}
 use Rattle.octets.specs.Runs.{part, paste}
 use Rattle.octets.specs.Blocks.{flat, pad_to}
-use Rattle.octets.proofs.Runs.{paste_join}
+use Rattle.octets.proofs.Runs.{part_length, part_add, paste_join}
 use Rattle.octets.proofs.Numbers.{part-be32}
 use Rattle.octets.proofs.Blocks.{flat-length, pad-length, pad-more}
-use Rattle.paper.specs.Base.{Slot, Table, stream, waiting, further, with_numbers, stream_total}
+use Rattle.paper.specs.Base.{Slot, Table, slot, stream, waiting, with_numbers, stream_total}
 use Rattle.paper.specs.declared.Stream.{Stream}
-use Rattle.table_image.specs.Layout.{slot_base, waiting_from, slot_at, table_of, stream_bytes, waiting_bytes, further_bytes, image_of, count_offset}
+use Rattle.table_image.specs.Layout.{slot_base, waiting_from, slot_at, table_of, stream_bytes, waiting_bytes, slot_bytes, image_of, count_offset}
 use Rattle.table_image.specs.Layout.{numbers_offset, numbers_size, slot_size, slots_offset, number_base, slot_part}
 use Rattle.table_image.specs.Lent.{Lent, LentNumber}
 use Rattle.table_image.proofs.Shapes.{stream-length}
 use Rattle.table_image.proofs.Stored.{store_numbers}
-use Rattle.table_image.proofs.TableBack.{slot-at, slot_run}
+use Rattle.table_image.proofs.TableBack.{slot-at, slot-part}
 use Rattle.ledger.specs.Lists.{listed, joined}
 use Rattle.ledger.proofs.Lists.{listed-length, listed_at, joined_append}
 use Rattle.paper.specs.Saps.{most_open}
@@ -26,11 +26,6 @@ use Rattle.paper.specs.Saps.{most_open}
 -- a stream has no more open numbers than there are places for
 pub placed-few : {i k : ℕ} {img : List ℕ} → LentNumber i k img → k < most_open
 placed-few {i} l = omega (arith, l.placed, l.at.lent.shaped.eight i)
-
--- how long count and numbers are
-pub waiting-length : (w : List ℕ) → length w ≤ most_open → length (waiting_bytes w) ≡ 1 + numbers_size
-unfolding waiting_bytes
-waiting-length w h = ap suc (pad-length numbers_size (flat w) (omega (arith, flat-length w)))
 
 module _ (img : List ℕ) (l : Lent img) (i : ℕ) (b : i < stream_total) where
   -- the number at a place
@@ -48,14 +43,22 @@ module _ (img : List ℕ) (l : Lent img) (i : ℕ) (b : i < stream_total) where
       ∙ sym (listed_at f 0 (get_or c count_offset 0) k 0 (omega arith))
       ∙ ap (λ (v : List ℕ). get_or v k 0) (sym w)
 
+  -- the bytes of a slot
+  slot-bytes : slot_part img i ≡ slot_bytes (slot (table_of img) i)
+  slot-bytes = ap (λ (r : List ℕ). slot_part r i) (sym l.same) ∙ slot-part (table_of img) l.shaped i b
+
   -- their bytes
   pub numbers-part : part img (i * slot_size + (slots_offset + count_offset)) (1 + numbers_size) ≡ waiting_bytes (waiting (table_of img) i)
   numbers-part =
       let t : Table = table_of img in
-      let at : ℕ = i * slot_size + (slots_offset + count_offset) in
-      ap (λ (r : List ℕ). part r at (1 + numbers_size)) (sym l.same)
-      ∙ slot_run t l.shaped i b (stream_bytes (stream t i)) (waiting_bytes (waiting t i)) (further_bytes (further t i)) at (1 + numbers_size) refl
-      (omega (arith, stream-length (stream t i))) (waiting-length (waiting t i) (l.shaped.eight i))
+      let s : List ℕ = stream_bytes (stream t i) in
+      let bytes : ℕ = 1 + numbers_size in
+      let p : i * slot_size + (slots_offset + count_offset) ≡ slot_base i + count_offset = omega arith in
+      ap (λ (k : ℕ). part img k bytes) p
+      ∙ sym (drop_at (part img (slot_base i) count_offset) (part img (slot_base i + count_offset) bytes) count_offset
+      (part_length img (slot_base i) count_offset (omega (arith, l.held.long))))
+      ∙ ap (drop count_offset) (sym (part_add img (slot_base i) count_offset bytes) ∙ slot-bytes)
+      ∙ drop_at s (waiting_bytes (waiting t i)) count_offset (stream-length (stream t i))
 
   -- a stream and its open numbers are stored
   pub numbers_stored : (s : Stream) (w : List ℕ) → length w ≤ most_open
@@ -77,6 +80,11 @@ copied_on f d l i h b n m k e =
     ∙ ap (λ (r : List ℕ). take n b ++ r) (sym j)
 
 -- ---- one more, one less
+
+-- how long count and numbers are
+pub waiting-length : (w : List ℕ) → length w ≤ most_open → length (waiting_bytes w) ≡ 1 + numbers_size
+unfolding waiting_bytes
+waiting-length w h = ap suc (pad-length numbers_size (flat w) (omega (arith, flat-length w)))
 
 -- the bytes with one number more, and the count with it
 pub more_bytes : (w : List ℕ) (n : ℕ) → length w < most_open

@@ -1,4 +1,3 @@
 -- Laws of the test of refusal 16, and what a sound image gives to those who are lent it.
 mod Singles
 pub mod Slots
-mod Tidy

@@ -2,7 +2,7 @@
 use Prim.Native.Nat.{ℕ, zero, suc, ◌+◌, ◌*◌, ◌≤◌, ◌<◌}
 use mathlib.Core.Path.{◌≡◌, refl, sym, ap, ◌∙◌}
 use mathlib.Core.Bool.{Bool, true, not}
-use mathlib.Core.List.{List, []}
+use mathlib.Core.List.{List, [], ◌++◌, append-nil}
 use lib.ListN.{length, get_or, take, drop, replicate, length-map}
 use lib.Seq.{take-take}
 use lib.Dec.{eqb, ltb, leb, eqb-suc-zero}
@@ -10,24 +10,25 @@ use native.Mathlib.Omega.{arith}
 use borrow.Author.Tests.{eq-eqb, lt-ltb, le-leb}
 use Rattle.ledger.specs.Choice.{both}
 use Rattle.ledger.specs.Tally.{occ, all_of}
-use Rattle.ledger.proofs.Tallies.{both_of, to_both, both_true, both_assoc, both_swap, same_test, all_both}
+use Rattle.ledger.proofs.Tallies.{to_both, both_true, both_assoc, both_swap, same_test, all_both}
 use Rattle.ledger.proofs.Lists.{map_at, listed_at}
+use Rattle.ledger.specs.Lists.{joined}
 use Rattle.ledger.proofs.Sums.{occ-joined, all_joined}
 use Rattle.octets.specs.Numbers.{be32_at}
 use Rattle.octets.specs.Runs.{part, all_zero}
 use Rattle.octets.proofs.Numbers.{be32_at-be32, be32_at-part}
 use Rattle.octets.proofs.Runs.{zero-replicate}
-use Rattle.paper.specs.Base.{number_of, Slot, Table, slot, ppa_numbers, no_ppa, stream, waiting, further, stream_total, most_ppas}
+use Rattle.paper.specs.Base.{number_of, Slot, closed, Table, slot, ppa_numbers, no_ppa, stream, waiting, stream_total, most_ppas}
 use Rattle.paper.specs.Sound.{every, holds_nothing, open_tests, sound_slot, is_single, is_alone, remembers_openings, sound}
 use Rattle.paper.specs.Correlations.{occurrences}
 use Rattle.paper.specs.declared.Stream.{Stream}
 use Rattle.paper.specs.declared.Ppa.{Ppa}
 use Rattle.table_image.specs.Layout.{ppa_base, slot_base, slot_parts, ppa_from, ppa_at, table_of, stream_bytes, waiting_bytes, slot_bytes}
-use Rattle.table_image.specs.Layout.{place_size, count_offset, numbers_offset, slot_size, slot_part}
+use Rattle.table_image.specs.Layout.{header_bytes, image_of, place_size, count_offset, numbers_offset, slot_size, slots_offset, slot_part}
 use Rattle.table_image.specs.Lent.{Lent}
-use Rattle.table_image.proofs.TableBack.{slot-part}
+use Rattle.octets.proofs.Pieces.{joined_at}
+use Rattle.table_image.proofs.Shapes.{slots-wide, header_length}
 use Rattle.table_lookup.proofs.Laws.{ppa-place}
-use Rattle.table_further.specs.Groups.{are_further_right}
 use Rattle.table_soundness.specs.Groups.{is_attached_right, is_bound_right, is_count_right, open_numbers, is_single_in, are_single, is_stream_sound}
 use Rattle.paper.proofs.SoundTests.{holds_nothing_lem}
 
@@ -58,8 +59,8 @@ ppa-number-at img k h =
 
 -- the tests in their groups
 pub grouped : (ppas : List ℕ) (x : Slot) → every (open_tests ppas x)
-    ≡ both (is_attached_right ppas x.stream) (both (is_bound_right x.stream) (both (is_count_right x.stream (length x.waiting)) (are_further_right x)))
-unfolding is_attached_right is_bound_right is_count_right are_further_right
+    ≡ both (is_attached_right ppas x.stream) (both (is_bound_right x.stream) (is_count_right x.stream (length x.waiting)))
+unfolding is_attached_right is_bound_right is_count_right
 grouped ppas x = simp (both_assoc, both_true)
 
 -- a count of none, of any granted
@@ -69,36 +70,36 @@ none_waits (suc n) g = rw (eqb-suc-zero n, lt-ltb 0 (suc n) (omega arith))
 
 -- ---- closed streams
 
--- its bytes up to the count of open numbers and that of further SAPs are zero, and no other's
-zeros : (x : Slot) → both (all_zero (take numbers_offset (slot_bytes x))) (eqb (length x.further) 0) ≡ holds_nothing x
+-- its bytes up to the count of open numbers are zero, and no other's
+zeros : (x : Slot) → all_zero (take numbers_offset (slot_bytes x)) ≡ holds_nothing x
 unfolding stream_bytes waiting_bytes holds_nothing
-zeros x = same_test (test x) (holds_nothing x) none (λ e. ap test (holds_nothing_lem x e))
+zeros x = same_test (all_zero (take numbers_offset (slot_bytes x))) (holds_nothing x) none (λ e. ap (λ (y : Slot). all_zero (take numbers_offset (slot_bytes y))) (holds_nothing_lem x e))
   where
-    test : Slot → Bool
-    test y = both (all_zero (take numbers_offset (slot_bytes y))) (eqb (length y.further) 0)
-
-    none : test x ≡ true → holds_nothing x ≡ true
+    none : all_zero (take numbers_offset (slot_bytes x)) ≡ true → holds_nothing x ≡ true
     none e =
         let s : Stream = x.stream in
-        let parts = both_of (all_zero (take numbers_offset (slot_bytes x))) (eqb (length x.further) 0) e in
         let byte : (k : ℕ) → get_or (take numbers_offset (slot_bytes x)) k 0 ≡ get_or (replicate numbers_offset 0) k 0 =
-        λ k. ap (λ (r : List ℕ). get_or r k 0) (zero-replicate (take numbers_offset (slot_bytes x)) parts.0) in
+        λ k. ap (λ (r : List ℕ). get_or r k 0) (zero-replicate (take numbers_offset (slot_bytes x)) e) in
         to_both _ _ (eq-eqb (number_of s.state) 0 (byte 0))
         (to_both _ _ (eq-eqb s.ppa.0 0 (sym (be32_at-be32 s.ppa.0 []) ∙ (λ d. byte 4 d * 16777216 + byte 5 d * 65536 + byte 6 d * 256 + byte 7 d)))
         (to_both _ _
         (to_both _ _ (eq-eqb s.mode 0 (byte 1))
         (to_both _ _ (eq-eqb s.sap 0 (omega (arith, byte 2, byte 3))) (to_both _ _ (eq-eqb s.granted 0 (byte 8)) refl)))
-        (to_both _ _ (eq-eqb (length x.waiting) 0 (byte count_offset)) parts.1)))
+        (eq-eqb (length x.waiting) 0 (byte count_offset))))
 
-pub closed-bytes : (img : List ℕ) → Lent img → (i : ℕ) → i < stream_total
-    → both (all_zero (part img (slot_base i) numbers_offset)) (eqb (length (further (table_of img) i)) 0) ≡ holds_nothing (slot (table_of img) i)
+pub closed-bytes : (img : List ℕ) → Lent img → (i : ℕ) → i < stream_total → all_zero (part img (slot_base i) numbers_offset) ≡ holds_nothing (slot (table_of img) i)
+unfolding image_of
 closed-bytes img l i h =
     let t : Table = table_of img in
-    let first : part img (slot_base i) numbers_offset ≡ take numbers_offset (slot_bytes (slot t i)) =
-    sym (take-take numbers_offset slot_size (drop (slot_base i) img) (omega arith))
+    ap all_zero
+    (sym (take-take numbers_offset slot_size (drop (slot_base i) img) (omega arith))
     ∙ ap (λ (r : List ℕ). take numbers_offset (slot_part r i)) (sym l.same)
-    ∙ ap (take numbers_offset) (slot-part t l.shaped i h) in
-    ap (λ (r : List ℕ). both (all_zero r) (eqb (length (further t i)) 0)) first ∙ zeros (slot t i)
+    ∙ ap (λ (r : List ℕ). take numbers_offset (slot_part (header_bytes t ++ r) i)) (sym (append-nil (joined slot_bytes t.slots)))
+    ∙ ap (take numbers_offset) (joined_at slot_bytes closed slot_size (header_bytes t) slots_offset t.slots i (header_length t l.shaped) (slots-wide t l.shaped) (omega (
+      arith,
+      l.shaped.sixteen,
+    )) []))
+    ∙ zeros (slot t i)
 
 -- ---- the clauses, those of the streams in one
 

@@ -1,31 +1,12 @@
--- The tests of a slot and of a stream, in the groups in which they are made.
-use Rattle.std.specs.Prelude.{ℕ, ◌-◌, ◌*◌, ◌≤◌, ◌≡◌, Bool, List, length, get_or, eqb, ltb, leb}
+-- The tests of a stream, in the groups in which they are made.
+use Rattle.std.specs.Prelude.{ℕ, Bool, List, eqb, ltb, leb}
 use Rattle.ledger.specs.Choice.{pick, both, asks}
 use Rattle.ledger.specs.Tally.{occ, has, all_of}
 use Rattle.ledger.specs.Lists.{joined}
-use Rattle.octets.specs.Runs.{part, all_zero}
-use Rattle.paper.specs.Base.{is_in, is_among, bound_states, connection_states, most_further, Slot, Table, ppa_numbers, stream, waiting}
-use Rattle.paper.specs.Saps.{most_open, as_bind_allows}
+use Rattle.paper.specs.Base.{is_in, is_among, bound_states, connection_states, Slot, Table, ppa_numbers, stream, waiting}
+use Rattle.paper.specs.Saps.{as_bind_allows}
 use Rattle.paper.specs.Sound.{every, same_answer, unbound, sound_slot, is_alone}
 use Rattle.paper.specs.declared.Stream.{Stream}
-use Rattle.table_image.specs.Layout.{numbers_size, further_count_offset, further_size, slot_size, number_base, further_base}
-
--- ---- the bytes of a slot (`tidy_slot`)
-
--- at most four further SAPs, zeros behind them
-unfoldable pub are_further_tidy : List ℕ → Bool
-are_further_tidy c =
-    let k : ℕ = get_or c further_count_offset 0 in
-    both (leb k most_further) (all_zero (part c (further_base k) (further_size - k * 2)))
-
--- behind n open numbers: zeros in the other places for them, and the further SAPs
-unfoldable pub tidy_behind : ℕ → List ℕ → Bool
-tidy_behind n c = both (all_zero (part c (number_base n) (numbers_size - n * 4))) (are_further_tidy c)
-
--- so many of them, no more than there are places for
-pub record Counted (n : ℕ) (c : List ℕ) : Type 0 where
-  pub long : length c ≡ slot_size
-  pub few : n ≤ most_open
 
 -- ---- an open stream (`open_tests`)
 

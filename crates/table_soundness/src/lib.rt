@@ -2,17 +2,17 @@
 ghost use Rattle.std.specs.Prelude.{◌≡◌, ℕ, ◌≤◌, length, get_or, leb};
 ghost use Rattle.ledger.specs.Tally.{one_if, occ, all_of};
 ghost use Rattle.paper.specs.Base.{slot, stream, ppa_numbers};
-ghost use Rattle.paper.specs.Sound.{every, unbound, holds_nothing, open_tests, sound_slot, listeners_of, is_alone, remembers_openings, sound};
+ghost use Rattle.paper.specs.Sound.{every, unbound, open_tests, sound_slot, listeners_of, is_alone, remembers_openings, sound};
 ghost use Rattle.table_image.specs.Layout.{table_of, is_state, tidy_slot, slot_parts, tidy_ppas, tidy, sound_image, slot_size};
 ghost use Rattle.table_image.specs.Lent.{Lent, Held, LentAt, LentPpa};
-ghost use Rattle.table_soundness.specs.Groups.{are_further_tidy, tidy_behind, Counted, is_attached_right, is_bound_right, is_count_right, open_numbers, is_single_in, are_single, is_stream_sound};
+ghost use Rattle.table_soundness.specs.Groups.{is_attached_right, is_bound_right, is_count_right, open_numbers, is_single_in, are_single, is_stream_sound};
 ghost use Rattle.paper.specs.Correlations.{most_numbers};
 ghost use Rattle.ledger.specs.Few.{Few};
 
-use paper::{MOST_FURTHER, MOST_NUMBERS, MOST_OPEN, MOST_PPAS, PpaNumber, STREAM_TOTAL, Stream};
+use paper::{MOST_NUMBERS, MOST_OPEN, MOST_PPAS, PpaNumber, STREAM_TOTAL, Stream};
 use table_image::{
-    COUNT_OFFSET, FURTHER_COUNT_OFFSET, FURTHER_OFFSET, IMAGE_SIZE, MEMORY_OFFSET, NUMBERS_OFFSET,
-    PLACE_SIZE, PLACES_OFFSET, PPA_COUNT_OFFSET, SLOT_SIZE, SLOTS_OFFSET, STATE_OFFSET,
+    COUNT_OFFSET, IMAGE_SIZE, MEMORY_OFFSET, NUMBERS_OFFSET, PLACE_SIZE, PLACES_OFFSET,
+    PPA_COUNT_OFFSET, SLOT_SIZE, SLOTS_OFFSET, STATE_OFFSET,
 };
 
 // ---- a tidy image: what is unused is zero
@@ -25,31 +25,7 @@ fn is_state(n: u8) -> bool
     paper::number_of(q) == n
 }
 
-// At most four further SAPs, zeros behind them.
-fn are_further_tidy(c: &[u8]) -> bool
-    requires { length c.now ≡ slot_size }
-    ensures { result ≡ are_further_tidy c.now }
-{
-    let count = octets::wide(c[FURTHER_COUNT_OFFSET]) as usize;
-    if MOST_FURTHER < count {
-        return false;
-    }
-    octets::is_zero(&c[count * 2 + FURTHER_OFFSET..])
-}
-
-// What stands behind so many open numbers: zeros in the other places for them, and the further SAPs.
-fn is_tidy_behind(c: &[u8], count: usize) -> bool
-    requires { Counted count c.now }
-    ensures { result ≡ tidy_behind count c.now }
-{
-    if !octets::is_zero(&c[count * 4 + NUMBERS_OFFSET..FURTHER_COUNT_OFFSET]) {
-        return false;
-    }
-    are_further_tidy(c)
-}
-
-// The bytes of a slot: at most 8 open numbers and four further SAPs, zeros behind either. Most streams have no further SAP, and
-// then all from the last number on is zero.
+// The bytes of a slot: at most 8 open numbers, zeros behind them.
 fn is_slot_tidy(c: &[u8]) -> bool
     requires { length c.now ≡ slot_size }
     ensures { result ≡ tidy_slot c.now }
@@ -61,10 +37,7 @@ fn is_slot_tidy(c: &[u8]) -> bool
     if MOST_OPEN < count {
         return false;
     }
-    if octets::is_zero(&c[count * 4 + NUMBERS_OFFSET..]) {
-        return true;
-    }
-    is_tidy_behind(c, count)
+    octets::is_zero(&c[count * 4 + NUMBERS_OFFSET..])
 }
 
 fn are_slots_tidy(img: &[u8]) -> bool
@@ -189,7 +162,7 @@ fn is_bound_right(s: Stream) -> bool
     if !paper::holds_binding(q) {
         return is_unbound(s);
     }
-    if !paper_saps::as_bind_allows(s) {
+    if !paper_rules::as_bind_allows(s) {
         return false;
     }
     if paper::is_connection(q) {
@@ -223,25 +196,10 @@ fn is_open_sound(img: &[u8], i: usize) -> bool
     if !is_bound_right(s) {
         return false;
     }
-    if !is_count_right(s, table_image::count_at(img, i)) {
-        return false;
-    }
-    table_further::are_further_right(img, i)
+    is_count_right(s, table_image::count_at(img, i))
 }
 
-// A closed stream holds nothing: its bytes up to the count of open numbers are zero, and so is the count of further SAPs; in a
-// tidy image all others are zero then.
-fn holds_nothing(img: &[u8], i: usize) -> bool
-    requires { LentAt i img.now }
-    ensures { result ≡ holds_nothing (slot (table_of img.now) i) }
-{
-    let at = i * SLOT_SIZE + SLOTS_OFFSET;
-    if !octets::is_zero(&img[at..at + NUMBERS_OFFSET]) {
-        return false;
-    }
-    table_image::further_count_at(img, i) == 0
-}
-
+// A closed stream holds nothing: its bytes up to the count of open numbers are zero, and so in a tidy image are the others.
 fn is_slot_sound(img: &[u8], i: usize) -> bool
     requires { LentAt i img.now }
     ensures { result ≡ sound_slot (ppa_numbers (table_of img.now)) (slot (table_of img.now) i) }
@@ -249,7 +207,8 @@ fn is_slot_sound(img: &[u8], i: usize) -> bool
     if table_image::is_open(img, i) {
         return is_open_sound(img, i);
     }
-    holds_nothing(img, i)
+    let at = i * SLOT_SIZE + SLOTS_OFFSET;
+    octets::is_zero(&img[at..at + NUMBERS_OFFSET])
 }
 
 // ---- no open number is 0 or occurs twice

@@ -3,14 +3,13 @@ ghost use Rattle.std.specs.Prelude.{◌≡◌, ◌≤◌, length};
 ghost use Rattle.octets.specs.Runs.{part};
 ghost use Rattle.octets.specs.Blocks.{block_size};
 ghost use Rattle.paper.specs.Base.{address_size, length_of};
-ghost use Rattle.paper.specs.Messages.{code_in, other_code, primitive_of, sized, sap_place_in, read_as, asked_by};
+ghost use Rattle.paper.specs.Messages.{code_in, other_code, primitive_of, sized, read_as, asked_by};
 ghost use Rattle.paper.specs.declared.Primitive.TheVariants as primitive;
 ghost use Rattle.wire_messages.specs.Whole.{Whole};
 
 use paper::{
     ADDRESS_SIZE, Asked, BindRequest, ConnectRequest, ConnectResponse, Correlation,
-    DisconnectRequest, Form, MAC_SIZE, PpaNumber, Primitive, Request, Rule, SapPlace, Token,
-    UnitdataRequest,
+    DisconnectRequest, Form, MAC_SIZE, PpaNumber, Primitive, Request, Rule, Token, UnitdataRequest,
 };
 
 pub fn code_in(m: &[u8]) -> u32
@@ -20,12 +19,14 @@ pub fn code_in(m: &[u8]) -> u32
     octets::number32_inside(m, 0)
 }
 
-// The codes that are not in the paper's table: five of them are known, but not supported.
+// The codes that are not in the paper's table: seven of them are known, but not supported.
 fn other_code(code: u32) -> Primitive
     ensures { result ≡ other_code code }
 {
     match code {
         0x0a => Primitive::NotSupported,
+        0x15 => Primitive::NotSupported,
+        0x1b => Primitive::NotSupported,
         0x1d => Primitive::NotSupported,
         0x1e => Primitive::NotSupported,
         0x1f => Primitive::NotSupported,
@@ -51,8 +52,6 @@ fn primitive_of(code: u32) -> Primitive
         0x17 => Primitive::Reset,
         0x19 => Primitive::ResetRes,
         0x07 => Primitive::Unitdata,
-        0x1b => Primitive::SubsBind,
-        0x15 => Primitive::SubsUnbind,
         _ => other_code(code),
     }
 }
@@ -140,37 +139,6 @@ fn unitdata_in(m: &[u8]) -> Asked
     of_size(20, m, Request::Unitdata(asked))
 }
 
-// A SAP alone is read in the form that its length has. As in a connect, a byte past the message reads as 0.
-fn sap_place_in(m: &[u8]) -> SapPlace
-    requires { length m.now ≤ block_size }
-    ensures { result ≡ sap_place_in m.now }
-{
-    let offset = octets::number32_at(m, 4);
-    let length = octets::number32_at(m, 8);
-    SapPlace {
-        offset,
-        length,
-        size: m.len() as u8,
-        sap: paper::sap_at(m, paper::form_alone(length), offset as usize),
-    }
-}
-
-fn subs_bind_in(m: &[u8]) -> Asked
-    requires { length m.now ≤ block_size }
-    ensures { result ≡ read_as primitive.SubsBind m.now }
-{
-    let place = sap_place_in(m);
-    let class = octets::number32_at(m, 12);
-    of_size(16, m, Request::SubsBind(place, class))
-}
-
-fn subs_unbind_in(m: &[u8]) -> Asked
-    requires { length m.now ≤ block_size }
-    ensures { result ≡ read_as primitive.SubsUnbind m.now }
-{
-    of_size(12, m, Request::SubsUnbind(sap_place_in(m)))
-}
-
 // Step 1 of the order of errors: what a message of at least four bytes asks for.
 pub fn asked_by(m: &[u8]) -> Asked
     requires { Whole m.now }
@@ -189,8 +157,6 @@ pub fn asked_by(m: &[u8]) -> Asked
         Primitive::Reset => of_size(4, m, Request::Reset),
         Primitive::ResetRes => of_size(4, m, Request::ResetRes),
         Primitive::Unitdata => unitdata_in(m),
-        Primitive::SubsBind => subs_bind_in(m),
-        Primitive::SubsUnbind => subs_unbind_in(m),
         Primitive::NotSupported => Asked::Wrong(Rule::NotSupported),
         Primitive::NotServed => Asked::Wrong(Rule::NotServed),
     }

@@ -7,13 +7,13 @@ ghost use Rattle.paper.specs.Base.{most_address, length_of, number, header_numbe
 ghost use Rattle.paper.specs.RecordsIn.{message_size, data_size, pair_size};
 ghost use Rattle.paper.specs.RecordsOut.{order, up, datum, bytes_of, all_bytes, flush_if, message_bytes};
 ghost use Rattle.paper.specs.RecordsOut.{start_size, connect_size, accept_size, disconnect_size, unitdata_size};
-ghost use Rattle.paper.specs.Replies.{sap_bytes, address_of, info_fields, info_tail, most_tail, unitdata_fields};
+ghost use Rattle.paper.specs.Replies.{address_of, info_fields, info_tail, most_tail, unitdata_fields};
 ghost use Rattle.wire_replies.specs.Rooms.{Calls, Sends, Carries, InBlock, Behind, BehindInfo, Addressed, Indicates, SapTakes, message_under};
 
 use octets::BLOCK_SIZE;
 use paper::{
-    ACCEPT_SIZE, Correlation, DISCONNECT_SIZE, Form, HEAD_SIZE, LineOrder, MAC_SIZE, MESSAGE_SIZE,
-    MOST_ADDRESS, Reply, START_SIZE, Stream, UNITDATA_SIZE,
+    ACCEPT_SIZE, ADDRESS_SIZE, Correlation, DISCONNECT_SIZE, Form, HEAD_SIZE, LineOrder, MAC_SIZE,
+    MESSAGE_SIZE, MOST_ADDRESS, Reply, START_SIZE, Stream, UNITDATA_SIZE,
 };
 
 // ---- orders to the line, and the flush
@@ -219,16 +219,7 @@ fn put_bound(room: &mut [u8], s: u8, sap: u16, granted: u8, tail: &[u8]) -> usiz
     )
 }
 
-// SUBS_BIND_ACK: offset 12 and the length of the SAP, which stands there alone.
-fn put_subs_bound(room: &mut [u8], s: u8, sap: u16, tail: &[u8]) -> usize
-    requires { Behind tail.now room.old }
-    ensures { WroteMost message_size (bytes_of (up s (Reply.SubsBindAck sap) tail.now)) 0 result room.old room.new }
-{
-    let size = sap_length(sap);
-    put_message(room, b'_c', s, &[0x1c, 12, size], tail)
-}
-
-// Codes 0x03 to 0x06, 0x12 and 0x1c go up as C, the others as P. The originator is always 0x0701.
+// Codes 0x03 to 0x06 and 0x12 go up as C, the others as P. The originator is always 0x0701.
 pub fn put_up(room: &mut [u8], s: u8, reply: Reply, tail: &[u8]) -> usize
     requires { Behind tail.now room.old }
     ensures { WroteMost message_size (bytes_of (up s reply tail.now)) 0 result room.old room.new }
@@ -249,7 +240,6 @@ pub fn put_up(room: &mut [u8], s: u8, reply: Reply, tail: &[u8]) -> usize
         Reply::ResetInd(reason) => put_message(room, b'_p', s, &[0x18, 0x0701, reason], tail),
         Reply::ResetCon => put_message(room, b'_p', s, &[0x1a], tail),
         Reply::UderrorInd(error) => put_message(room, b'_p', s, &[0x09, 0, 0, 0, error], tail),
-        Reply::SubsBindAck(sap) => put_subs_bound(room, s, sap, tail),
     }
 }
 
@@ -287,20 +277,7 @@ pub fn put_indication(room: &mut [u8], s: u8, size: u8, block: &[u8], body: &[u8
     MESSAGE_SIZE + put_data(&mut room[MESSAGE_SIZE..], s, body)
 }
 
-// ---- addresses, or a SAP alone, which stand behind the fields of a message up
-
-// 1 byte of SAP or 2 of Ethernet type, from a place on.
-pub fn put_sap(room: &mut [u8], at: usize, sap: u16) -> usize
-    requires { at + 2 ≤ length room.old }
-    ensures { WroteMost 2 (sap_bytes sap) at result room.old room.new }
-{
-    if sap < 256 {
-        octets::put_bytes(room, at, &[sap as u8]);
-        return at + 1;
-    }
-    octets::put_number16(room, at, sap);
-    at + 2
-}
+// ---- addresses, which stand behind the fields of a message up
 
 // An address is the MAC, then 1 byte of SAP or 2 of Ethernet type.
 pub fn put_address(room: &mut [u8], mac: [u8; MAC_SIZE], sap: u16) -> usize
@@ -308,7 +285,12 @@ pub fn put_address(room: &mut [u8], mac: [u8; MAC_SIZE], sap: u16) -> usize
     ensures { WroteMost most_address (address_of mac sap) 0 result room.old room.new }
 {
     octets::put_bytes(room, 0, &mac);
-    put_sap(room, MAC_SIZE, sap)
+    if sap < 256 {
+        octets::put_bytes(room, MAC_SIZE, &[sap as u8]);
+        return ADDRESS_SIZE;
+    }
+    octets::put_number16(room, MAC_SIZE, sap);
+    MOST_ADDRESS
 }
 
 // The address of a stream, if it is bound.

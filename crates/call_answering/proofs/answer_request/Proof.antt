@@ -1,5 +1,5 @@
 -- A request is answered by its state row: with none it is an error, else what the judged request comes to. No message takes an
--- open indication, and a fifth further SAP is refused, so there is always a place; and each effect fits the room.
+-- open indication, so there is always a place; and each effect fits the room.
 use mathlib.Core.Path.{ap, ◌∙◌}
 use Rattle.paper.specs.Effects.{error_effect}
 use Rattle.table_image.specs.Layout.{table_of}
@@ -33,7 +33,7 @@ returns-2 c =
       comes =
           by_row (table_of a.args.img.now) a.args.i r a.args.code a.args.q _ _ stood.load-stream.ensures
           found.request-row.ensures _ _ _ told.found.given.1 c.before.judged-request.ensures effect;
-      fits = message-placed _ a.requires.within _ _ _ _ _ _ c.before.judged-request.ensures effect;
+      fits = message-placed _ a.requires.within _ _ _ _ _ effect;
     }
 
 pub answer-request-spec : {M : Type 1} → statement M

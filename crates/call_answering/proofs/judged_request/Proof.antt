@@ -85,12 +85,6 @@ returns-12 c =
       carrier = rw (told, c.alone10.ensures);
     }
 
-returns-13 : tie.Need-returns-13
-returns-13 c = rw c.before.before.q7.given.1 c.judged-subs-bind.ensures
-
-returns-14 : tie.Need-returns-14
-returns-14 c = rw c.before.before.q8.given.1 c.judged-subs-unbind.ensures
-
 pub judged-request-spec : {M : Type 1} → statement M
 judged-request-spec =
     tie.close
@@ -125,10 +119,6 @@ judged-request-spec =
     (λ c. search rules)
     (λ c κs. search rules)
     (λ c κs. search rules)
-    (λ c. search rules)
-    (λ c κs. search rules)
-    (λ c. search rules)
-    (λ c κs. search rules)
     returns
     returns-2
     returns-3
@@ -140,6 +130,4 @@ judged-request-spec =
     returns-9
     returns-10
     returns-11
-    returns-12
-    returns-13
-    returns-14)
+    returns-12)

@@ -30,11 +30,11 @@ handed mac m l r {n} w e =
 
 put-up-requires : tie.Need-put-up-requires
 put-up-requires c κs =
-    let at-put-own = c.before.before.before.before.before in
-    let a = at-put-own.before.before.before.before.before in
+    let at-put-own-address = c.before.before.before.before.before in
+    let a = at-put-own-address.before.before.before.before.before in
     let mac = mac_at (table_of a.args.img.now) a.args.i in
     let m = a.args.r.now in
-    let own = at-put-own.put-own.ensures in
+    let own = at-put-own-address.put-own-address.ensures in
     let tail = handed mac m (replicate most_tail 0) a.args.reply own c.before.behind.ensures in
     record { short = rw tail (tail_most mac (mac-length _ a.requires.at.lent.shaped _) m a.args.reply); roomy = search rules }
 
@@ -42,10 +42,10 @@ returns : tie.Need-returns
 returns c =
     let at-put-up = c.before.before in
     let at-behind = at-put-up.before.before in
-    let at-put-own = at-behind.before.before.before.before in
-    let a = at-put-own.before.before.before.before.before.args in
+    let at-put-own-address = at-behind.before.before.before.before in
+    let a = at-put-own-address.before.before.before.before.before.args in
     let mac = mac_at (table_of a.img.now) a.i in
-    let own = at-put-own.put-own.ensures in
+    let own = at-put-own-address.put-own-address.ensures in
     let tail = handed mac a.r.now (replicate most_tail 0) a.reply own at-behind.behind.ensures in
     wrote-same (ap (λ (l : List ℕ). bytes_of (up a.i a.reply l)) tail) at-put-up.put_up.ensures
 

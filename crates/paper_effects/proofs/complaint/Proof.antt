@@ -15,7 +15,7 @@ use Rattle.paper_effects.proofs.complaint.Tie as tie
 
 -- the rules that are not of a datagram, by their tags
 abbrev others : List ℕ
-others = 0 ∷ 1 ∷ 2 ∷ 3 ∷ 4 ∷ 5 ∷ 6 ∷ 7 ∷ 8 ∷ 9 ∷ 10 ∷ 11 ∷ 12 ∷ 13 ∷ 14 ∷ 15 ∷ 16 ∷ 17 ∷ 18 ∷ 19 ∷ 20 ∷ 21 ∷ 22 ∷ 23 ∷ 24 ∷ 30 ∷ 31 ∷ 32 ∷ 33 ∷ 34 ∷ 35 ∷ 36 ∷ 37 ∷ 38 ∷ []
+others = 0 ∷ 1 ∷ 2 ∷ 3 ∷ 4 ∷ 5 ∷ 6 ∷ 7 ∷ 8 ∷ 9 ∷ 10 ∷ 11 ∷ 12 ∷ 13 ∷ 14 ∷ 15 ∷ 16 ∷ 17 ∷ 18 ∷ 19 ∷ 20 ∷ 21 ∷ 22 ∷ 23 ∷ 24 ∷ []
 
 other : (code : ℕ) (r : Rule) → OneOf others (tag_of the-rule.the_type r) → ErrorAck code (error_of r) ≡ reply_by code (complaint_of r)
 other code rule.NotSupported h = refl
@@ -48,15 +48,6 @@ other code rule.DatagramLength h = absurd (miss others 26 tt h)
 other code rule.DatagramTooEarly h = absurd (miss others 27 tt h)
 other code rule.DatagramTooLate h = absurd (miss others 28 tt h)
 other code rule.DatagramSapNotAllowed h = absurd (miss others 29 tt h)
-other code rule.FurtherInModeOne h = refl
-other code rule.FurtherClass h = refl
-other code rule.FurtherLength h = refl
-other code rule.FurtherTooEarly h = refl
-other code rule.FurtherTooLate h = refl
-other code rule.FurtherNotAllowed h = refl
-other code rule.FurtherThere h = refl
-other code rule.FurtherAbsent h = refl
-other code rule.FurtherTooMany h = refl
 
 returns : tie.Need-returns
 returns c = rw (c.before.before.error-of.ensures, c.enum_told.given.1)

@@ -35,16 +35,11 @@ returns-5 c =
 
 returns-6 : tie.Need-returns-6
 unfolding effect_of
-returns-6 c =
-    let at-ok3 = c.before in
-    let at-settled = at-ok3.before in
-    let at-next3 = at-settled.before in
-    let known = at-next3.before in
-    rw (known.enum-told4.given.1, c.acting6.ensures, at-ok3.ok3.ensures, at-settled.settled.ensures, at-next3.next3.ensures)
+returns-6 c = rw (c.before.before.before.enum-told4.given.1, c.acting6.ensures, c.before.ok3.ensures, c.before.before.onward2.ensures)
 
 returns-7 : tie.Need-returns-7
 unfolding effect_of
-returns-7 c = rw (c.before.before.before.v3.given.1, c.acting7.ensures, c.before.onward2.ensures)
+returns-7 c = rw (c.before.before.before.v3.given.1, c.acting7.ensures, c.before.onward3.ensures)
 
 returns-8 : tie.Need-returns-8
 unfolding effect_of
@@ -63,46 +58,29 @@ unfolding effect_of
 returns-10 c =
     let at-ok5 = c.before in
     let at-is-joined = at-ok5.before in
-    let at-onward3 = at-is-joined.before in
-    let at-no-number = at-onward3.before in
+    let at-onward4 = at-is-joined.before in
+    let at-no-number = at-onward4.before in
     let known = at-no-number.before.before in
     rw (
       known.v6.given.1,
       c.acting9.ensures,
       at-ok5.ok5.ensures,
       at-is-joined.is-joined.ensures,
-      at-onward3.onward3.ensures,
+      at-onward4.onward4.ensures,
       at-no-number.no_number.ensures,
     )
 
 returns-11 : tie.Need-returns-11
 unfolding effect_of
-returns-11 c = rw (c.before.before.enum-told5.given.1, c.acting10.ensures, c.before.onward4.ensures)
+returns-11 c = rw (c.before.before.enum-told5.given.1, c.acting10.ensures, c.before.onward5.ensures)
 
 returns-12 : tie.Need-returns-12
 unfolding effect_of
-returns-12 c = rw (c.before.before.before.enum-told6.given.1, c.acting11.ensures, c.before.ok6.ensures, c.before.before.onward5.ensures)
+returns-12 c = rw (c.before.before.before.enum-told6.given.1, c.acting11.ensures, c.before.ok6.ensures, c.before.before.onward6.ensures)
 
 returns-13 : tie.Need-returns-13
 unfolding effect_of
 returns-13 c = rw (c.before.before.before.v7.given.1, c.acting12.ensures, c.before.unchanged3.ensures)
-
-returns-14 : tie.Need-returns-14
-unfolding effect_of
-returns-14 c =
-    let at-settled2 = c.before in
-    let at-next4 = at-settled2.before in
-    let known = at-next4.before.before in
-    rw (known.v8.given.1, c.acting13.ensures, at-settled2.settled2.ensures, at-next4.next4.ensures)
-
-returns-15 : tie.Need-returns-15
-unfolding effect_of
-returns-15 c =
-    let at-ok7 = c.before in
-    let at-settled3 = at-ok7.before in
-    let at-next5 = at-settled3.before in
-    let known = at-next5.before.before in
-    rw (known.v9.given.1, c.acting14.ensures, at-ok7.ok7.ensures, at-settled3.settled3.ensures, at-next5.next5.ensures)
 
 pub effect-of-spec : {M : Type 1} → statement M
 effect-of-spec =
@@ -131,7 +109,6 @@ effect-of-spec =
     (λ c κs. search rules)
     (λ c κs. search rules)
     (λ c κs. search rules)
-    (λ c κs. search rules)
     (λ c. search rules)
     (λ c κs. search rules)
     (λ c κs. search rules)
@@ -155,15 +132,6 @@ effect-of-spec =
     (λ c κs. search rules)
     (λ c κs. search rules)
     (λ c. search rules)
-    (λ c κs. search rules)
-    (λ c κs. search rules)
-    (λ c. search rules)
-    (λ c κs. search rules)
-    (λ c κs. search rules)
-    (λ c κs. search rules)
-    (λ c. search rules)
-    (λ c κs. search rules)
-    (λ c κs. search rules)
     (λ c κs. search rules)
     (λ c κs. search rules)
     returns
@@ -178,6 +146,4 @@ effect-of-spec =
     returns-10
     returns-11
     returns-12
-    returns-13
-    returns-14
-    returns-15)
+    returns-13)

@@ -63,12 +63,6 @@ returns-16 c = simp c.enum-told11.given.1
 returns-17 : tie.Need-returns-17
 returns-17 c = simp c.enum-told12.given.1
 
-returns-18 : tie.Need-returns-18
-returns-18 c = rw c.before.enum-told13.given.1 (c.stays-idle.ensures _ _)
-
-returns-19 : tie.Need-returns-19
-returns-19 c = rw c.before.enum-told14.given.1 (c.stays-idle2.ensures _ _)
-
 pub request-course-spec : {M : Type 1} → statement M
 request-course-spec =
     tie.close
@@ -88,10 +82,6 @@ request-course-spec =
     (λ c. search rules)
     (λ c. search rules)
     (λ c. search rules)
-    (λ c. search rules)
-    (λ c κs. search rules)
-    (λ c. search rules)
-    (λ c κs. search rules)
     returns-2
     returns-3
     returns-4
@@ -107,6 +97,4 @@ request-course-spec =
     returns-14
     returns-15
     returns-16
-    returns-17
-    returns-18
-    returns-19)
+    returns-17)

@@ -6,13 +6,13 @@ use native.Mathlib.Omega.{arith}
 use lib.ListN.{replicate, drop_of_length-le}
 use Rattle.octets.specs.Numbers.{be16, be32}
 use Rattle.octets.specs.Runs.{paste}
-use Rattle.table_image.specs.Layout.{stream_bytes, waiting_bytes, further_bytes, header_bytes, image_of, mask_offset, counter_offset, image_size}
+use Rattle.table_image.specs.Layout.{stream_bytes, waiting_bytes, header_bytes, image_of, mask_offset, counter_offset, image_size}
 use borrow.Author.Rules.{rules}
 use Rattle.table_image.proofs.make_fresh.Statement.{statement}
 use Rattle.table_image.proofs.make_fresh.Tie as tie
 
 returns : tie.Need-returns
-unfolding image_of header_bytes stream_bytes waiting_bytes further_bytes
+unfolding image_of header_bytes stream_bytes waiting_bytes
 returns c =
     let at-put-number32 = c.before.before in
     let at-put-number16 = at-put-number32.before.before.before.before in

@@ -32,8 +32,7 @@ returns-2 c =
 
 returns-3 : tie.Need-returns-3
 returns-3 c =
-    let counted = c.before in
-    let bound = counted.before.before in
+    let bound = c.before.before in
     let attached = bound.before.before in
     let loaded = attached.before.before in
     let a = loaded.before.before.args in
@@ -43,30 +42,10 @@ returns-3 c =
     rw (grouped (ppa_numbers t) x)
     (simp (
       ← s,
-      ← counted.before.count_at.ensures,
+      ← c.before.count_at.ensures,
       test_held attached.before.is-attached-right.ensures attached.if1.false,
       test_held bound.before.is-bound-right.ensures bound.if2.false,
-      test_failed counted.is-count-right.ensures c.if3.true,
-    ))
-
-returns-4 : tie.Need-returns-4
-returns-4 c =
-    let counted = c.before.before in
-    let bound = counted.before.before in
-    let attached = bound.before.before in
-    let loaded = attached.before.before in
-    let a = loaded.before.before.args in
-    let t = table_of a.img.now in
-    let x = slot t a.i in
-    let s : loaded.load-stream.result ≡ x.stream = loaded.load-stream.ensures in
-    rw (grouped (ppa_numbers t) x)
-    (simp (
-      ← s,
-      ← counted.before.count_at.ensures,
-      test_held attached.before.is-attached-right.ensures attached.if1.false,
-      test_held bound.before.is-bound-right.ensures bound.if2.false,
-      test_held counted.is-count-right.ensures c.before.if3.false,
-    ) c.are-further-right.ensures)
+    ) c.is-count-right.ensures)
 
 pub is-open-sound-spec : {M : Type 1} → statement M
 is-open-sound-spec =
@@ -79,6 +58,4 @@ is-open-sound-spec =
     returns-2
     (λ c κs. search rules)
     (λ c κs. search rules)
-    returns-3
-    (λ c κs. search rules)
-    returns-4)
+    returns-3)

@@ -1,57 +1,47 @@
--- The tests of a slot in their groups; zeros from the last number on pass the last two at once.
-use Prim.Native.Nat.{ℕ}
-use mathlib.Core.Path.{◌≡◌, sym, ap, ◌∙◌}
-use lib.ListN.{get_or}
+-- The bytes from the first unused place for a number up to the slot's end are those that must be zero.
+use Prim.Native.Nat.{ℕ, ◌+◌, ◌-◌, ◌*◌}
+use mathlib.Core.Path.{◌≡◌, ap₂, ◌∙◌}
+use lib.ListN.{length, get_or}
 use native.Mathlib.Omega.{arith}
 use borrow.Author.Rules.{rules}
 use borrow.Author.Tests.{lt-leb, le-leb}
-use Rattle.ledger.proofs.Tallies.{test_held, test_failed}
-use Rattle.paper.specs.Saps.{most_open}
-use Rattle.table_image.specs.Layout.{count_offset}
-use Rattle.table_soundness.specs.Groups.{tidy_behind}
-use Rattle.table_soundness.proofs.Tidy.{tidy_groups, zeros_behind}
+use Rattle.octets.specs.Runs.{part, all_zero}
+use Rattle.table_image.specs.Layout.{tidy_slot, count_offset, numbers_offset, numbers_size, number_base}
 use Rattle.table_soundness.proofs.is_slot_tidy.Statement.{statement}
 use Rattle.table_soundness.proofs.is_slot_tidy.Tie as tie
+use Rattle.ledger.proofs.Tallies.{test_held, test_failed}
+use Rattle.paper.specs.Saps.{most_open}
+use Rattle.paper.specs.Base.{slot}
 
 returns : tie.Need-returns
-returns c =
-    let state = c.before in
-    rw (tidy_groups state.before.before.before.args.c.now) (simp (test_failed state.is_state.ensures c.if1.true))
+unfolding tidy_slot
+returns c = simp (test_failed c.before.is_state.ensures c.if1.true)
 
 returns-2 : tie.Need-returns-2
+unfolding tidy_slot
 returns-2 c =
-    let counted = c.before in
-    let state = counted.before.before in
-    let slot = state.before.before.before.before.args.c.now in
-    let more = lt-leb (get_or slot count_offset 0) most_open (omega (arith, c.if2.true, counted.wide.ensures.is)) in
-    rw (tidy_groups slot) (simp (test_held state.before.is_state.ensures state.if1.false, more))
-
-returns-3 : tie.Need-returns-3
-returns-3 c =
-    let looked = c.before in
-    let few = looked.before.before in
-    let counted = few.before in
-    let state = counted.before.before in
+    let at_wide = c.before in
+    let state = at_wide.before.before in
     let start = state.before.before.before.before in
     let slot = start.args.c.now in
+    let more = lt-leb (get_or slot count_offset 0) most_open (omega (arith, c.if2.true, at_wide.wide.ensures.is)) in
+    simp (test_held state.before.is_state.ensures state.if1.false, more)
+
+returns-3 : tie.Need-returns-3
+unfolding tidy_slot
+returns-3 c =
+    let counted = c.before.before.before in
+    let state = counted.before.before in
+    let slot = state.before.before.before.before.args.c.now in
     let n : ℕ = get_or slot count_offset 0 in
     let m : ℕ = counted.wide.result in
     let count : m ≡ n = counted.wide.ensures.is in
-    let behind = zeros_behind m slot (record { long = start.requires; few = few.if2.false }) (sym looked.is_zero.ensures ∙ c.if3.true) in
-    rw (tidy_groups slot)
-    (simp (test_held state.before.is_state.ensures state.if1.false, le-leb n most_open (omega (arith, few.if2.false)), ap (λ (k : ℕ). tidy_behind k slot) (sym count) ∙ behind))
-
-returns-4 : tie.Need-returns-4
-returns-4 c =
-    let few = c.before.before.before.before in
-    let counted = few.before in
-    let state = counted.before.before in
-    let slot = state.before.before.before.before.args.c.now in
-    let n : ℕ = get_or slot count_offset 0 in
-    let count : counted.wide.result ≡ n = counted.wide.ensures.is in
-    rw (tidy_groups slot)
-    (simp (test_held state.before.is_state.ensures state.if1.false, le-leb n most_open (omega (arith, few.if2.false)))
-    (c.is-tidy-behind.ensures ∙ ap (λ (k : ℕ). tidy_behind k slot) count))
+    let from : m * 4 + numbers_offset ≡ number_base n = omega arith in
+    let size : length slot - (m * 4 + numbers_offset) ≡ numbers_size - n * 4 = omega arith in
+    let z : c.is_zero.result ≡ all_zero (part slot (number_base n) (numbers_size - n * 4)) =
+    c.is_zero.ensures ∙ ap₂ (λ (a k : ℕ). all_zero (part slot a k)) from size in
+    let few = le-leb n most_open (omega (arith, c.before.before.if2.false)) in
+    simp (test_held state.before.is_state.ensures state.if1.false, few) z
 
 pub is-slot-tidy-spec : {M : Type 1} → statement M
 is-slot-tidy-spec =
@@ -70,6 +60,4 @@ is-slot-tidy-spec =
     (λ c. search rules)
     (λ c. search rules)
     (λ c κs. search rules)
-    returns-3
-    (λ c κs. search rules)
-    returns-4)
+    returns-3)

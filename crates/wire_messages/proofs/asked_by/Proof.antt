@@ -102,37 +102,17 @@ returns-12 c =
 
 returns-13 : tie.Need-returns-13
 unfolding asked_by
-returns-13 c =
-    let known = c.before in
-    let named = known.before.before in
-    let read = named.before in
-    simp (← read.code-in.ensures, ← named.primitive-of.ensures, known.enum-told13.given.1) c.subs-bind-in.ensures
+returns-13 c = simp (← c.before.before.before.code-in.ensures, ← c.before.before.primitive-of.ensures, c.enum-told13.given.1)
 
 returns-14 : tie.Need-returns-14
 unfolding asked_by
-returns-14 c =
-    let known = c.before in
-    let named = known.before.before in
-    let read = named.before in
-    simp (← read.code-in.ensures, ← named.primitive-of.ensures, known.enum-told14.given.1) c.subs-unbind-in.ensures
-
-returns-15 : tie.Need-returns-15
-unfolding asked_by
-returns-15 c = simp (← c.before.before.before.code-in.ensures, ← c.before.before.primitive-of.ensures, c.enum-told15.given.1)
-
-returns-16 : tie.Need-returns-16
-unfolding asked_by
-returns-16 c = simp (← c.before.before.before.code-in.ensures, ← c.before.before.primitive-of.ensures, c.enum-told16.given.1)
+returns-14 c = simp (← c.before.before.before.code-in.ensures, ← c.before.before.primitive-of.ensures, c.enum-told14.given.1)
 
 pub asked-by-spec : {M : Type 1} → statement M
 asked-by-spec =
     tie.close
     (tie.spec
     (λ c κs. search rules)
-    (λ c κs. search rules)
-    (λ c. search rules)
-    (λ c κs. search rules)
-    (λ c. search rules)
     (λ c κs. search rules)
     (λ c. search rules)
     (λ c κs. search rules)
@@ -173,6 +153,4 @@ asked-by-spec =
     returns-11
     returns-12
     returns-13
-    returns-14
-    returns-15
-    returns-16)
+    returns-14)

@@ -56,18 +56,8 @@ returns-12 c = rw c.match.keys12
 
 returns-13 : tie.Need-returns-13
 unfolding primitive_of ◌⇒◌∣◌
-returns-13 c = rw c.match.keys13
-
-returns-14 : tie.Need-returns-14
-unfolding primitive_of ◌⇒◌∣◌
-returns-14 c = rw c.match.keys14
-
-returns-15 : tie.Need-returns-15
-unfolding primitive_of ◌⇒◌∣◌
-returns-15 c =
-    let not-subs-unbind = c.before.match.rest in
-    let not-subs-bind = not-subs-unbind.0 in
-    let not-unitdata = not-subs-bind.0 in
+returns-13 c =
+    let not-unitdata = c.before.match.rest in
     let not-reset-res = not-unitdata.0 in
     let not-reset = not-reset-res.0 in
     let not-disconnect = not-reset.0 in
@@ -92,8 +82,6 @@ returns-15 c =
       ne_eqb _ 23 not-reset.1,
       ne_eqb _ 25 not-reset-res.1,
       ne_eqb _ 7 not-unitdata.1,
-      ne_eqb _ 27 not-subs-bind.1,
-      ne_eqb _ 21 not-subs-unbind.1,
     )
     c.other-code.ensures
 
@@ -114,6 +102,4 @@ primitive-of-spec =
     returns-10
     returns-11
     returns-12
-    returns-13
-    returns-14
-    returns-15)
+    returns-13)

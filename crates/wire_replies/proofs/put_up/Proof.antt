@@ -79,12 +79,6 @@ returns-11 c =
     let known = wrote.before.before.before.before in
     rw known.reply9.given.1 wrote.put-message9.ensures
 
-returns-12 : tie.Need-returns-12
-returns-12 c =
-    let wrote = c.before.before in
-    let known = wrote.before.before.before in
-    rw known.reply10.given.1 wrote.put-subs-bound.ensures
-
 pub put-up-spec : {M : Type 1} → statement M
 put-up-spec =
     tie.close
@@ -121,8 +115,6 @@ put-up-spec =
     (λ c. search rules)
     (λ c κs. search rules)
     (λ c. search rules)
-    (λ c κs. search rules)
-    (λ c. search rules)
     returns
     (λ c. search rules)
     returns-2
@@ -143,6 +135,4 @@ put-up-spec =
     (λ c. search rules)
     returns-10
     (λ c. search rules)
-    returns-11
-    (λ c. search rules)
-    returns-12)
+    returns-11)

@@ -15,7 +15,7 @@ use Rattle.paper_rules.proofs.order.without_row.Tie as tie
 
 -- the requests that are no datagram, by their tags
 abbrev others : List ℕ
-others = 0 ∷ 1 ∷ 2 ∷ 3 ∷ 4 ∷ 5 ∷ 6 ∷ 7 ∷ 8 ∷ 9 ∷ 10 ∷ 12 ∷ 13 ∷ []
+others = 0 ∷ 1 ∷ 2 ∷ 3 ∷ 4 ∷ 5 ∷ 6 ∷ 7 ∷ 8 ∷ 9 ∷ 10 ∷ []
 
 other : (q : Request) → OneOf others (tag_of the-request.the_type q) → rule.NoRow ≡ without_row q
 unfolding without_row
@@ -31,8 +31,6 @@ other (request.Disconnect d) h = refl
 other request.Reset h = refl
 other request.ResetRes h = refl
 other (request.Unitdata u) h = absurd (miss others 11 tt h)
-other (request.SubsBind p class) h = refl
-other (request.SubsUnbind p) h = refl
 
 returns : tie.Need-returns
 unfolding without_row
