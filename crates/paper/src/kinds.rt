@@ -10,7 +10,7 @@ use crate::{
 pub fn is_message(kind: u8) -> bool
     ensures { result ≡ is_message kind }
 {
-    kind == b'_p' || kind == b'_c'
+    kind == b'P' || kind == b'C'
 }
 
 // The size of a record out, by its kind.
@@ -32,7 +32,7 @@ pub fn size_out(kind: u8) -> usize
     if kind == b'u' {
         return UNITDATA_SIZE;
     }
-    if kind == b'_m' {
+    if kind == b'M' {
         return DATA_SIZE;
     }
     START_SIZE

@@ -35,12 +35,12 @@ fn letter_of(event: Event) -> u8
     ensures { result ≡ letter_of event }
 {
     match event {
-        Event::Arrives(_) => b'_i',
-        Event::Accepted => b'_a',
-        Event::Gone(_) => b'_d',
-        Event::Withdrawn(_, _) => b'_w',
-        Event::Resets(_) => b'_r',
-        Event::Confirmed => b'_s',
+        Event::Arrives(_) => b'I',
+        Event::Accepted => b'A',
+        Event::Gone(_) => b'D',
+        Event::Withdrawn(_, _) => b'W',
+        Event::Resets(_) => b'R',
+        Event::Confirmed => b'S',
     }
 }
 

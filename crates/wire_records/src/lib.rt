@@ -17,18 +17,18 @@ fn kind_of(b: u8) -> Kind
     ensures { result ≡ kind_of b }
 {
     match b {
-        b'_g' => Kind::AddPpa,
-        b'_o' => Kind::Open,
-        b'_x' => Kind::Close,
-        b'_p' => Kind::Message,
-        b'_c' => Kind::Message,
-        b'_i' => Kind::CallArrives,
-        b'_a' => Kind::PeerAccepted,
-        b'_d' => Kind::PeerGone,
-        b'_w' => Kind::CallWithdrawn,
-        b'_r' => Kind::PeerReset,
-        b'_s' => Kind::ResetConfirmed,
-        b'_m' => Kind::Data,
+        b'G' => Kind::AddPpa,
+        b'O' => Kind::Open,
+        b'X' => Kind::Close,
+        b'P' => Kind::Message,
+        b'C' => Kind::Message,
+        b'I' => Kind::CallArrives,
+        b'A' => Kind::PeerAccepted,
+        b'D' => Kind::PeerGone,
+        b'W' => Kind::CallWithdrawn,
+        b'R' => Kind::PeerReset,
+        b'S' => Kind::ResetConfirmed,
+        b'M' => Kind::Data,
         b'f' => Kind::Frame,
         _ => Kind::Unknown,
     }
@@ -81,7 +81,7 @@ fn has_data(r: &[u8]) -> bool
     if r.len() < PAIR_SIZE {
         return false;
     }
-    if octets::byte_at(r, MESSAGE_SIZE) != b'_m' {
+    if octets::byte_at(r, MESSAGE_SIZE) != b'M' {
         return false;
     }
     octets::byte_at(r, MESSAGE_SIZE + 1) == octets::byte_at(r, 1)

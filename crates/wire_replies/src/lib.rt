@@ -101,7 +101,7 @@ pub fn put_data(room: &mut [u8], s: u8, body: &[u8]) -> usize
     requires { Carries body.now room.old }
     ensures { WroteMost data_size (bytes_of (datum s body.now)) 0 result room.old room.new }
 {
-    let at = put_start(room, b'_m', s);
+    let at = put_start(room, b'M', s);
     octets::put_bytes(room, at, body);
     at + body.len()
 }
@@ -112,7 +112,7 @@ pub fn put_flush_if(room: &mut [u8], on: bool, s: u8) -> usize
     ensures { WroteMost start_size (all_bytes (flush_if on s)) 0 result room.old room.new }
 {
     if on {
-        return put_start(room, b'_f', s);
+        return put_start(room, b'F', s);
     }
     0
 }
@@ -176,7 +176,7 @@ fn put_info_fields(
     let fields = [
         0x03, 1497, 0, address, 0, 0, q, sap, m, 0, 0, 0, 0, 0x0501, offset, 2, 6, broadcast, 0,
     ];
-    put_message(room, b'_c', s, &fields, tail)
+    put_message(room, b'C', s, &fields, tail)
 }
 
 // Unbound: address length, SAP length and address offset 0, mode 3. Bound: address offset 76, the SAP length is minus 1
@@ -212,7 +212,7 @@ fn put_bound(room: &mut [u8], s: u8, sap: u16, granted: u8, tail: &[u8]) -> usiz
     let most = octets::wide(granted);
     put_message(
         room,
-        b'_c',
+        b'C',
         s,
         &[0x04, sap as u32, address, 24, most, 0],
         tail,
@@ -227,19 +227,19 @@ pub fn put_up(room: &mut [u8], s: u8, reply: Reply, tail: &[u8]) -> usize
     match reply {
         Reply::InfoAck(q) => put_info(room, s, q, tail),
         Reply::BindAck(sap, granted) => put_bound(room, s, sap, granted, tail),
-        Reply::ErrorAck(code, error) => put_message(room, b'_c', s, &[0x05, code, error, 0], tail),
-        Reply::OkAck(code) => put_message(room, b'_c', s, &[0x06, code], tail),
+        Reply::ErrorAck(code, error) => put_message(room, b'C', s, &[0x05, code, error, 0], tail),
+        Reply::OkAck(code) => put_message(room, b'C', s, &[0x06, code], tail),
         Reply::ConnectInd(c) => {
-            put_message(room, b'_p', s, &[0x0e, c.0, 7, 36, 7, 43, 0, 0, 0], tail)
+            put_message(room, b'P', s, &[0x0e, c.0, 7, 36, 7, 43, 0, 0, 0], tail)
         }
-        Reply::ConnectCon => put_message(room, b'_p', s, &[0x10, 7, 24, 0, 0, 0], tail),
-        Reply::TokenAck(k) => put_message(room, b'_c', s, &[0x12, k.0], tail),
+        Reply::ConnectCon => put_message(room, b'P', s, &[0x10, 7, 24, 0, 0, 0], tail),
+        Reply::TokenAck(k) => put_message(room, b'C', s, &[0x12, k.0], tail),
         Reply::DisconnectInd(reason, c) => {
-            put_message(room, b'_p', s, &[0x14, 0x0701, reason, c.0], tail)
+            put_message(room, b'P', s, &[0x14, 0x0701, reason, c.0], tail)
         }
-        Reply::ResetInd(reason) => put_message(room, b'_p', s, &[0x18, 0x0701, reason], tail),
-        Reply::ResetCon => put_message(room, b'_p', s, &[0x1a], tail),
-        Reply::UderrorInd(error) => put_message(room, b'_p', s, &[0x09, 0, 0, 0, error], tail),
+        Reply::ResetInd(reason) => put_message(room, b'P', s, &[0x18, 0x0701, reason], tail),
+        Reply::ResetCon => put_message(room, b'P', s, &[0x1a], tail),
+        Reply::UderrorInd(error) => put_message(room, b'P', s, &[0x09, 0, 0, 0, error], tail),
     }
 }
 
@@ -272,7 +272,7 @@ pub fn put_indication(room: &mut [u8], s: u8, size: u8, block: &[u8], body: &[u8
     ensures { WroteMost pair_size ((80 ∷ s ∷ size ∷ []) ++ block.now ++ bytes_of (datum s body.now))
         0 result room.old room.new }
 {
-    octets::put_bytes(room, 0, &[b'_p', s, size]);
+    octets::put_bytes(room, 0, &[b'P', s, size]);
     octets::put_bytes(room, HEAD_SIZE, block);
     MESSAGE_SIZE + put_data(&mut room[MESSAGE_SIZE..], s, body)
 }
