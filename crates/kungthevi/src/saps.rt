@@ -40,7 +40,7 @@ fn telling_of(n: u32, by: Excluded) -> u32
 {
     match by {
         Excluded::By(x) => {
-            let ground = x.ground;
+            let ground = x.grounds;
             let place = x.place;
             ground_number(ground) as u32 * 256 + place_number(place) as u32 * 65536
         }

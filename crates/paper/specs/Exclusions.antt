@@ -21,13 +21,13 @@ most_number = 0xffffffff
 abbrev pub exclusions : List Exclusion
 exclusions =
     -- 'Binding': SAPs are even numbers from 0 to 255;
-    record { ground = OddSap; which = Odd; first = 0; last = 0xff; place = Binding }
+    record { grounds = OddSap; which = Odd; first = 0; last = 0xff; place = Binding }
     -- reserved ones are not, and 'Reserved IEEESAPS/Ethertypes' leaves them to RFC 1010, which has one, 'Reserved (DOD IP)'.
-    ∷ record { ground = ReservedSap; which = All; first = 0x06; last = 0x06; place = ReservedSapsAndTypes }
+    ∷ record { grounds = ReservedSap; which = All; first = 0x06; last = 0x06; place = ReservedSapsAndTypes }
     -- 'Binding': types are numbers from 0x600
-    ∷ record { ground = BetweenSapsAndTypes; which = All; first = 0x100; last = 0x5ff; place = Binding }
+    ∷ record { grounds = BetweenSapsAndTypes; which = All; first = 0x100; last = 0x5ff; place = Binding }
     -- to 0xffff; reserved ones are not, and RFC 1010 has none.
-    ∷ record { ground = AboveTypes; which = All; first = 0x10000; last = most_number; place = Binding }
+    ∷ record { grounds = AboveTypes; which = All; first = 0x10000; last = most_number; place = Binding }
     ∷ []
 
 abbrev pub exclusion_total : ℕ
@@ -70,7 +70,7 @@ place_number ReservedSapsAndTypes = 2
 -- place.
 unfoldable pub telling_of : ℕ → Excluded → ℕ
 telling_of n Not = sap_length n
-telling_of n (By x) = ground_number x.ground * 256 + place_number x.place * 65536
+telling_of n (By x) = ground_number x.grounds * 256 + place_number x.place * 65536
 
 unfoldable pub sap_telling : ℕ → ℕ
 sap_telling n = telling_of n (excluded_by n)

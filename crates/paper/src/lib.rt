@@ -1,4 +1,5 @@
 // The rule paper's quantities, states, requests, rules, state rows, effects and records, as values. What each means stands in specs/.
+#![tactic(auto)]
 mod addresses;
 mod kinds;
 mod states;
@@ -74,7 +75,7 @@ pub struct Ppa {
 }
 
 // The states that stand between calls.
-#[derive(Drop)]
+#[derive(Clone, Copy)]
 pub enum State {
     Unattached,
     Unbound,
@@ -135,7 +136,7 @@ pub fn header_number(q: State) -> u8
 }
 
 // On which ground no bind can take a number.
-#[derive(Drop)]
+#[derive(Clone, Copy)]
 pub enum Ground {
     OddSap,
     ReservedSap,
@@ -144,23 +145,23 @@ pub enum Ground {
 }
 
 // The manual's places that say so.
-#[derive(Drop)]
+#[derive(Clone, Copy)]
 pub enum Place {
     Binding,
     ReservedSapsAndTypes,
 }
 
 // Which of the numbers from the first to the last.
-#[derive(Drop)]
+#[derive(Clone, Copy)]
 pub enum Which {
     Odd,
     All,
 }
 
 // An exclusion: no bind can take these of the numbers from the first to the last.
-#[derive(Drop)]
+#[derive(Clone, Copy)]
 pub struct Exclusion {
-    pub ground: Ground,
+    pub grounds: Ground,
     pub which: Which,
     pub first: u32,
     pub last: u32,
@@ -168,7 +169,7 @@ pub struct Exclusion {
 }
 
 // The exclusion that holds of a number.
-#[derive(Drop)]
+#[derive(Clone, Copy)]
 pub enum Excluded {
     By(Exclusion),
     Not,

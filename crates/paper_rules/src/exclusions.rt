@@ -9,7 +9,7 @@ const EXCLUSION_TOTAL: usize = 4;
 const EXCLUSIONS: [Exclusion; EXCLUSION_TOTAL] = [
     // 'Binding': SAPs are even numbers from 0 to 255;
     Exclusion {
-        ground: Ground::OddSap,
+        grounds: Ground::OddSap,
         which: Which::Odd,
         first: 0,
         last: 0xff,
@@ -17,7 +17,7 @@ const EXCLUSIONS: [Exclusion; EXCLUSION_TOTAL] = [
     },
     // reserved ones are not, and of these RFC 1010 has one.
     Exclusion {
-        ground: Ground::ReservedSap,
+        grounds: Ground::ReservedSap,
         which: Which::All,
         first: 0x06,
         last: 0x06,
@@ -25,7 +25,7 @@ const EXCLUSIONS: [Exclusion; EXCLUSION_TOTAL] = [
     },
     // 'Binding': types are numbers from 0x600
     Exclusion {
-        ground: Ground::BetweenSapsAndTypes,
+        grounds: Ground::BetweenSapsAndTypes,
         which: Which::All,
         first: 0x100,
         last: 0x5ff,
@@ -33,7 +33,7 @@ const EXCLUSIONS: [Exclusion; EXCLUSION_TOTAL] = [
     },
     // to 0xffff; of reserved ones RFC 1010 has none.
     Exclusion {
-        ground: Ground::AboveTypes,
+        grounds: Ground::AboveTypes,
         which: Which::All,
         first: 0x10000,
         last: 0xffffffff,

@@ -19,7 +19,7 @@ use Rattle.paper_rules.proofs.exclusions.excluded_in.Tie as tie
 
 -- what stands past the list's end
 abbrev past : Exclusion
-past = record { ground = OddSap; which = Odd; first = 0; last = 0; place = Binding }
+past = record { grounds = OddSap; which = Odd; first = 0; last = 0; place = Binding }
 
 record Passed (l : List Exclusion) (n k : ℕ) : Type 0 where
   pub inside : k ≤ exclusion_total

@@ -2,41 +2,40 @@
 use borrow.Author.Tests.{ne_eqb}
 use Rattle.ledger.specs.Choice.{◌⇒◌∣◌}
 use Rattle.paper.specs.Base.{state_of}
-use Rattle.paper.proofs.state_of.Statement.{statement}
-use Rattle.paper.proofs.state_of.Tie as tie
+use Rattle.paper.proofs.state_of.Goals as goal
 
-returns : tie.Need-returns
+pub returns-in-3 : goal.returns-in-3
 unfolding state_of ◌⇒◌∣◌
-returns c = rw c.match.keys1
+returns-in-3 c = rw c.in-3.is
 
-returns-2 : tie.Need-returns-2
+pub returns-in-6 : goal.returns-in-6
 unfolding state_of ◌⇒◌∣◌
-returns-2 c = rw c.match.keys2
+returns-in-6 c = rw c.in-6.is
 
-returns-3 : tie.Need-returns-3
+pub returns-in-8 : goal.returns-in-8
 unfolding state_of ◌⇒◌∣◌
-returns-3 c = rw c.match.keys3
+returns-in-8 c = rw c.in-8.is
 
-returns-4 : tie.Need-returns-4
+pub returns-in-9 : goal.returns-in-9
 unfolding state_of ◌⇒◌∣◌
-returns-4 c = rw c.match.keys4
+returns-in-9 c = rw c.in-9.is
 
-returns-5 : tie.Need-returns-5
+pub returns-in-11 : goal.returns-in-11
 unfolding state_of ◌⇒◌∣◌
-returns-5 c = rw c.match.keys5
+returns-in-11 c = rw c.in-11.is
 
-returns-6 : tie.Need-returns-6
+pub returns-in-12 : goal.returns-in-12
 unfolding state_of ◌⇒◌∣◌
-returns-6 c = rw c.match.keys6
+returns-in-12 c = rw c.in-12.is
 
-returns-7 : tie.Need-returns-7
+pub returns-in-13 : goal.returns-in-13
 unfolding state_of ◌⇒◌∣◌
-returns-7 c = rw c.match.keys7
+returns-in-13 c = rw c.in-13.is
 
-returns-8 : tie.Need-returns-8
+pub returns-in_default : goal.returns-in_default
 unfolding state_of ◌⇒◌∣◌
-returns-8 c =
-    let not-13 = c.match.rest in
+returns-in_default c =
+    let not-13 = c.in_default.in_default-own.rest in
     let not-12 = not-13.0 in
     let not-11 = not-12.0 in
     let not-9 = not-11.0 in
@@ -52,8 +51,3 @@ returns-8 c =
       ne_eqb _ 12 not-12.1,
       ne_eqb _ 13 not-13.1,
     )
-
-pub state-of-spec : {M : Type 1} → statement M
-state-of-spec =
-    tie.close
-    (tie.spec returns returns-2 returns-3 returns-4 returns-5 returns-6 returns-7 returns-8)

@@ -7,16 +7,12 @@ use lib.Seq.{take_all}
 use borrow.Author.Rules.{rules}
 use Rattle.octets.specs.Runs.{paste}
 use Rattle.text.specs.Digits.{most_digits, decimal}
-use Rattle.text.proofs.put_decimal.Statement.{statement}
-use Rattle.text.proofs.put_decimal.Tie as tie
+use Rattle.text.proofs.put_decimal.Goals as goal
 
-returns : tie.Need-returns
+pub returns : goal.returns
 returns c =
-    let wrote = c.before.before in
-    let made = wrote.before.before.before.before.before in
-    let start = made.before.before.before in
-    let a = start.args in
-    let d = made.put-digits in
+    let a = c.args in
+    let d = c.put_digits-from in
     let digits = drop d.result d.new.0 in
     let long : length digits ≡ most_digits - d.result = omega (arith, length-drop d.result d.new.0, d.ensures) in
     let all : take (most_digits - d.result) digits ≡ decimal a.n =
@@ -24,20 +20,5 @@ returns c =
     record {
       few = omega arith;
       ends = omega (arith, long, ap length d.ensures.stand);
-      stands = wrote.put-bytes.ensures ∙ ap (paste a.out.now a.at) all;
+      stands = c.put_bytes.ensures ∙ ap (paste a.out.now a.at) all;
     }
-
-pub put-decimal-spec : {M : Type 1} → statement M
-put-decimal-spec =
-    tie.close
-    (tie.spec
-    (λ c. search rules)
-    (λ c κs. search rules)
-    (λ c. search rules)
-    (λ c. search rules)
-    (λ c. search rules)
-    (λ c κs. search rules)
-    (λ c. search rules)
-    (λ c. search rules)
-    (λ c. search rules)
-    returns)

@@ -1,0 +1,22 @@
+-- After i turns the first i bytes of src stand over dst from the place on.
+use borrow.Author.Rules.{rules}
+use native.Mathlib.Omega.{arith}
+use native.Mathlib.Numerals.{add-one}
+use Prim.Native.Nat.{ℕ, ◌≤◌, ◌-◌}
+use mathlib.Core.Path.{◌≡◌, ◌∙◌}
+use mathlib.Core.List.{List}
+use lib.ListN.{length, length-set}
+use lib.Seq.{paste, paste-zero, paste-suc, take-length}
+use Rattle.octets.proofs.put_bytes.Given as goal
+
+-- the first i bytes of s stand over b₀
+pub record Over (b₀ : List ℕ) (at : ℕ) (s b : List ℕ) (i : ℕ) : Type 0 where
+  pub within : i ≤ length s
+  pub stands : b ≡ paste b₀ at s i
+  pub long : length b ≡ length b₀
+
+abbrev pub invariant-loop-i : goal.invariant-loop-i
+invariant-loop-i l = Over l.initial.dst l.at l.src l.dst l.i
+
+abbrev pub decreases-loop-i : goal.decreases-loop-i
+decreases-loop-i l = length l.src - l.i

@@ -1,0 +1,7 @@
+-- The bound states are those from 6 on.
+use borrow.Author.Rules.{rules}
+use Rattle.paper.proofs.StateNumbers.{bound_from}
+use Rattle.paper.proofs.states.holds_binding.Goals as goal
+
+pub returns : goal.returns
+returns c = rw c.number_of.ensures (bound_from c.args.q)
