@@ -13,8 +13,8 @@ pub returns : goal.returns
 returns c =
     let a = c.args in
     let d = c.put_digits-from in
-    let digits = drop d.result d.new.0 in
-    let long : length digits ≡ most_digits - d.result = omega (arith, length-drop d.result d.new.0, d.ensures) in
+    let digits = drop d.result d.new.digits in
+    let long : length digits ≡ most_digits - d.result = omega (arith, length-drop d.result d.new.digits, d.ensures) in
     let all : take (most_digits - d.result) digits ≡ decimal a.n =
     take_all (most_digits - d.result) digits (omega (arith, long)) ∙ d.ensures.stand in
     record {
