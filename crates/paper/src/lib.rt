@@ -59,16 +59,16 @@ pub const DISCONNECT_SIZE: usize = START_SIZE + 4 + 4;
 pub const UNITDATA_SIZE: usize = START_SIZE + 1 + MOST_ADDRESS;
 
 // What the paper calls unlike quantities: no one can stand for another.
-#[derive(Drop)]
+#[derive(Clone, Copy)]
 pub struct Token(pub u32);
 
-#[derive(Drop)]
+#[derive(Clone, Copy)]
 pub struct Correlation(pub u32);
 
-#[derive(Drop)]
+#[derive(Clone, Copy)]
 pub struct PpaNumber(pub u32);
 
-#[derive(Drop)]
+#[derive(Clone, Copy)]
 pub struct Ppa {
     pub number: PpaNumber,
     pub mac: [u8; MAC_SIZE],
@@ -176,7 +176,7 @@ pub enum Excluded {
 }
 
 // A stream, but for the numbers of its open indications. What it does not hold is zero.
-#[derive(Drop)]
+#[derive(Clone, Copy)]
 pub struct Stream {
     pub state: State,
     pub mode: u8,
@@ -186,7 +186,7 @@ pub struct Stream {
 }
 
 // The kinds of record in.
-#[derive(Drop)]
+#[derive(Clone, Copy)]
 pub enum Kind {
     AddPpa,
     Open,
@@ -204,14 +204,14 @@ pub enum Kind {
 }
 
 // The two forms of an address: the MAC with 1 byte of SAP, or with 2 of Ethernet type.
-#[derive(Drop)]
+#[derive(Clone, Copy)]
 pub enum Form {
     WithSap,
     WithType,
 }
 
 // A frame: its PPA, the form of its addresses, the called SAP or type, the length of its data.
-#[derive(Drop)]
+#[derive(Clone, Copy)]
 pub struct Frame {
     pub ppa: PpaNumber,
     pub form: Form,
@@ -220,7 +220,7 @@ pub struct Frame {
 }
 
 // A record in, read. Addresses and blocks stay where they lie in the record.
-#[derive(Drop)]
+#[derive(Clone, Copy)]
 pub enum Input {
     // no bytes, unknown kind or cut body: reading ends there
     Unreadable,
@@ -243,7 +243,7 @@ pub enum Input {
 }
 
 // The messages of the paper's table that a user sends, by their code.
-#[derive(Drop)]
+#[derive(Clone, Copy)]
 pub enum Primitive {
     Info,
     Attach,
@@ -264,7 +264,7 @@ pub enum Primitive {
 }
 
 // `most` is max_conind, `management` conn_mgmt.
-#[derive(Drop)]
+#[derive(Clone, Copy)]
 pub struct BindRequest {
     pub sap: u32,
     pub most: u32,
@@ -274,7 +274,7 @@ pub struct BindRequest {
 }
 
 // `size` is L; `last` the byte where the address would end.
-#[derive(Drop)]
+#[derive(Clone, Copy)]
 pub struct ConnectRequest {
     pub length: u32,
     pub offset: u32,
@@ -283,21 +283,21 @@ pub struct ConnectRequest {
     pub last: u8,
 }
 
-#[derive(Drop)]
+#[derive(Clone, Copy)]
 pub struct ConnectResponse {
     pub correlation: Correlation,
     pub token: Token,
     pub qos: u32,
 }
 
-#[derive(Drop)]
+#[derive(Clone, Copy)]
 pub struct DisconnectRequest {
     pub reason: u32,
     pub correlation: Correlation,
 }
 
 // `size` is L; `sap` what the address would be to: the byte or the two bytes where its MAC ends.
-#[derive(Drop)]
+#[derive(Clone, Copy)]
 pub struct UnitdataRequest {
     pub length: u32,
     pub offset: u32,
@@ -306,7 +306,7 @@ pub struct UnitdataRequest {
 }
 
 // A message that is served as a request and is of full size.
-#[derive(Drop)]
+#[derive(Clone, Copy)]
 pub enum Request {
     Info,
     Attach(PpaNumber),
@@ -323,7 +323,7 @@ pub enum Request {
 }
 
 // The rules that fail, in the order in which the paper tests them.
-#[derive(Drop)]
+#[derive(Clone, Copy)]
 pub enum Rule {
     // step 1
     NotSupported,
@@ -366,14 +366,14 @@ pub enum Rule {
 }
 
 // What a message with a code comes to: a request, or a rule of step 1 that fails.
-#[derive(Drop)]
+#[derive(Clone, Copy)]
 pub enum Asked {
     For(Request),
     Wrong(Rule),
 }
 
 // What the token of an accept names.
-#[derive(Drop)]
+#[derive(Clone, Copy)]
 pub enum Carrier {
     Itself,
     // another open stream, and how it stands
@@ -382,7 +382,7 @@ pub enum Carrier {
 }
 
 // What serves a request, with the values that it needs.
-#[derive(Drop)]
+#[derive(Clone, Copy)]
 pub enum Service {
     Inform,
     Attach(PpaNumber),
@@ -404,7 +404,7 @@ pub enum Service {
 }
 
 // What the order of errors comes to.
-#[derive(Drop)]
+#[derive(Clone, Copy)]
 pub enum Verdict {
     Serves(Service),
     Fails(Rule),
@@ -412,7 +412,7 @@ pub enum Verdict {
 
 // A state row: on a stream in this state and mode (0 while it is unbound), what comes (a request's code or an event's
 // letter) leads to a state, and to another where the last open indication goes with it.
-#[derive(Drop)]
+#[derive(Clone, Copy)]
 pub struct StateRow {
     pub from: u8,
     pub mode: u8,
@@ -422,14 +422,14 @@ pub struct StateRow {
 }
 
 // A stream's row for what comes.
-#[derive(Drop)]
+#[derive(Clone, Copy)]
 pub enum Found {
     At(StateRow),
     Missing,
 }
 
 // What the line brings to a stream.
-#[derive(Drop)]
+#[derive(Clone, Copy)]
 pub enum Event {
     // a call, with the number that its indication takes
     Arrives(Correlation),
@@ -442,7 +442,7 @@ pub enum Event {
 }
 
 // What becomes of a stream.
-#[derive(Drop)]
+#[derive(Clone, Copy)]
 pub enum Change {
     Stays,
     // its open indications are kept
@@ -454,7 +454,7 @@ pub enum Change {
 }
 
 // Orders to the line. The stream that an order names is not part of it.
-#[derive(Drop)]
+#[derive(Clone, Copy)]
 pub enum LineOrder {
     // where the called address begins in the message
     Connect(u8),
@@ -468,7 +468,7 @@ pub enum LineOrder {
 }
 
 // Messages up.
-#[derive(Drop)]
+#[derive(Clone, Copy)]
 pub enum Reply {
     InfoAck(Stream),
     // SAP, count granted
@@ -489,21 +489,21 @@ pub enum Reply {
 }
 
 // What a call tells the line.
-#[derive(Drop)]
+#[derive(Clone, Copy)]
 pub enum Telling {
     Untold,
     Tells(LineOrder),
 }
 
 // What a call says to its stream's user.
-#[derive(Drop)]
+#[derive(Clone, Copy)]
 pub enum Saying {
     Unsaid,
     Says(Reply),
 }
 
 // What a served call does. It names no stream: `carries` is whether the stream that the token names goes to 11.
-#[derive(Drop)]
+#[derive(Clone, Copy)]
 pub struct Effect {
     pub change: Change,
     pub carries: bool,

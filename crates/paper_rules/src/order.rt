@@ -13,6 +13,7 @@ use paper::{
 };
 
 // 2. No state row. Of a datagram it is a rule of its own.
+#[tactic(auto, unfolding(paper::specs::ErrorOrder::without_row))]
 pub fn without_row(q: Request) -> Rule
     ensures { result ≡ without_row q }
 {

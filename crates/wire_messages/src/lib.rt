@@ -1,4 +1,5 @@
 // Messages from a user, from bytes to requests.
+#![tactic(auto)]
 ghost use Rattle.std.specs.Prelude.{◌≡◌, ◌≤◌, length};
 ghost use Rattle.octets.specs.Runs.{part};
 ghost use Rattle.octets.specs.Blocks.{block_size};

@@ -1,0 +1,10 @@
+-- The course is that of the one row that the list can have for what comes.
+use mathlib.Core.Path.{◌∙◌}
+use Rattle.paper.specs.StateRows.{found}
+use borrow.Author.Rules.{rules}
+use Rattle.paper_rows.proofs.event_row.Goals as goal
+
+pub returns : goal.returns
+unfolding found
+returns c =
+    c.row_along.ensures ∙ rw (c.letter_of.ensures, ← c.number_of.ensures) (c.event_course-course.ensures _)

@@ -1,0 +1,8 @@
+-- Each field is read where the layout has it.
+use Rattle.table_image.specs.Layout.{stream_from}
+use borrow.Author.Rules.{rules}
+use Rattle.table_image.proofs.stream_from.Goals as goal
+
+pub returns : goal.returns
+unfolding stream_from
+returns c = rw (c.number32_inside.ensures, c.number16_inside-sap.ensures, c.state_of-state.ensures)

@@ -1,0 +1,11 @@
+-- The part is as long as the form says, which is at most eight bytes.
+use borrow.Author.Rules.{rules}
+use native.Mathlib.Omega.{arith}
+use Rattle.paper.proofs.Tails.{form_most}
+use Rattle.wire_messages.proofs.address_in.Goals as goal
+
+pub part_at-requires : goal.part_at-requires
+part_at-requires c = omega (arith, c.length_of.ensures, form_most c.args.form)
+
+pub returns : goal.returns
+returns c = rw (← c.length_of.ensures) c.part_at.ensures

@@ -1,0 +1,6 @@
+-- The fields are read where the paper has them, then the size is tested.
+use borrow.Author.Rules.{rules}
+use Rattle.wire_messages.proofs.disconnect_in.Goals as goal
+
+pub returns : goal.returns
+returns c = rw (c.of_size.ensures, c.number32_at-2.ensures, c.number32_at.ensures)
