@@ -20,7 +20,7 @@ use paper::{
 // ---- steps 3 to 7 of the order of errors, of stream i, which stands as s
 
 // What a request comes to, and the stream that would carry its call.
-#[derive(Drop)]
+#[derive(Clone, Copy)]
 struct Judgement {
     verdict: Verdict,
     carrier: u8,

@@ -64,7 +64,7 @@ fn come(img: &[u8], i: u8, refusal: u8, event: Event) -> Decided
 // ---- the stream that it comes to
 
 // What a record of the line brings.
-#[derive(Drop)]
+#[derive(Clone, Copy)]
 enum Brought {
     // a refusal, before any row is looked for
     Refused(u8),

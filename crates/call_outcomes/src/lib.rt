@@ -1,4 +1,5 @@
 // What is decided of a call, and what it leaves in the bytes lent to it: see specs/.
+#![tactic(auto)]
 ghost use Rattle.std.specs.Prelude.{◌≡◌};
 ghost use Rattle.call_outcomes.specs.Leaving.{refusing};
 
@@ -48,7 +49,7 @@ pub fn refusing(n: u8) -> u32
 }
 
 // What is decided of what comes to a stream, before anything is written.
-#[derive(Drop)]
+#[derive(Clone, Copy)]
 pub enum Decided {
     // the refusal number
     Refuses(u8),

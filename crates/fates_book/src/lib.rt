@@ -13,7 +13,7 @@ const NUMBER_AT: usize = HEAD_SIZE + 4;
 const ENDED_AT: usize = HEAD_SIZE + 12;
 
 // How an indication ends: accepted, denied, withdrawn by the line, dropped at close.
-#[derive(Drop)]
+#[derive(Clone, Copy)]
 pub enum End {
     Accepted,
     Denied,
@@ -21,7 +21,7 @@ pub enum End {
     Dropped,
 }
 
-#[derive(Drop)]
+#[derive(Clone, Copy)]
 pub enum Line {
     // this stream was opened
     Began(u8),

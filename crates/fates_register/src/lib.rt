@@ -1,4 +1,5 @@
 // The register of indications: what it keeps stands in specs/.
+#![tactic(auto)]
 ghost use Rattle.std.specs.Prelude.{◌≡◌, ◌+◌, ◌*◌, ◌<◌, eqb, ltb, length, get_or};
 ghost use Rattle.ledger.specs.Choice.{both};
 ghost use Rattle.fates_book.specs.Book.{count_of};
@@ -28,7 +29,7 @@ pub const REGISTER_SIZE: usize = TOTALS_AT + PAGE_SIZE;
 const MOST_COUNT: u64 = 0xffffffffffffffff;
 
 // One more, up to the largest number of 64 bits.
-fn one_more_lem(n: u64) -> u64
+fn one_more(n: u64) -> u64
     ensures { result ≡ one_more n }
 {
     if n == MOST_COUNT {
@@ -42,7 +43,7 @@ fn raise(register: &mut [u64], page: usize, k: usize)
     requires { CellsOf page (k + 1) register.old }
     ensures { register.new ≡ raised (page + k) register.old }
 {
-    register[page + k] = one_more_lem(register[page + k]);
+    register[page + k] = one_more(register[page + k]);
 }
 
 // Count k is one more, on the stream's page and on that of the whole table.

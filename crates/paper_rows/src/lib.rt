@@ -48,7 +48,7 @@ fn letter_of(event: Event) -> u8
 // ---- the rows
 
 // A row but for its cause.
-#[derive(Drop)]
+#[derive(Clone, Copy)]
 enum Course {
     // in a mode, from a state to another
     Leads(u8, u8, u8),

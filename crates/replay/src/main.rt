@@ -4,7 +4,7 @@ ghost use Rattle.replay.specs.Printed.{CallRoom, Replayed, Standing, AtTurn, AtC
 use turns::Turn;
 
 // A call that was made and printed: where its text ends, and whether it was refused.
-#[derive(Drop)]
+#[derive(Clone, Copy)]
 struct Printed {
     pub end: usize,
     pub refused: bool,

@@ -14,7 +14,7 @@ pub const MOST_CALLS: u64 = 0xffffffffffffffff;
 
 // Where the bytes not yet read stand in the input, whether there are more to come, and how much of the output is filled;
 // how many calls were made, and how many refused; whether to go on, and whether reading or writing failed.
-#[derive(Drop)]
+#[derive(Clone, Copy)]
 pub struct Turn {
     pub start: usize,
     pub end: usize,

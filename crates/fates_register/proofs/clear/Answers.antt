@@ -1,0 +1,31 @@
+-- A cell that is done is done as in the whole run, so the cells left lead to the same register.
+use native.Mathlib.Omega.{arith}
+use mathlib.Core.Path.{◌≡◌, refl, sym, ap, ◌∙◌}
+use mathlib.Core.List.{List}
+use Prim.Native.Nat.{ℕ, ◌+◌}
+use lib.ListN.{length, length-set}
+use borrow.Author.Rules.{rules}
+use Rattle.fates_register.specs.Register.{cleared}
+use Rattle.fates_register.specs.Register.{newest_size}
+use Rattle.fates_register.proofs.Laws.{clear_on}
+use Rattle.fates_register.proofs.clear.Invariants.{ToDo}
+use Rattle.fates_register.proofs.clear.Goals as goal
+
+pub loop-left-init : goal.loop-left-init
+loop-left-init c = record { same = refl; stands = omega arith; long = refl }
+
+pub loop-left-preserved : goal.loop-left-preserved
+loop-left-preserved c =
+    let l = c.loop-left in
+    record {
+      same = l.invariant.same ∙ clear_on l.left l.c l.register (omega arith);
+      stands = omega arith;
+      long = simp length-set l.invariant.long;
+    }
+
+pub returns : goal.returns
+unfolding cleared
+returns c =
+    let l = c.loop-left in
+    let none : l.left ≡ 0 = omega arith in
+    sym (l.invariant.same ∙ ap (λ (j : ℕ). cleared j l.c l.register) none)

@@ -1,0 +1,7 @@
+-- Two counts go up, one behind the other, on two pages.
+use borrow.Author.Rules.{rules}
+use Rattle.fates_register.proofs.count.Goals as goal
+
+pub returns : goal.returns
+returns c =
+    rw (c.raise-2.ensures, c.raise.ensures)

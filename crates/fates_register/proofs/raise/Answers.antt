@@ -1,0 +1,8 @@
+-- The cell that is read is the cell that is written.
+use Rattle.fates_register.specs.Register.{raised}
+use borrow.Author.Rules.{rules}
+use Rattle.fates_register.proofs.raise.Goals as goal
+
+pub returns : goal.returns
+unfolding raised
+returns c = rw c.one_more.ensures
