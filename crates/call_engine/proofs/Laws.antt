@@ -5,8 +5,6 @@ use mathlib.Core.Bool.{true, not, false≢true}
 use mathlib.Core.List.{List, [], ◌∷◌}
 use lib.ListN.{length}
 use lib.Dec.{ltb}
-use types.Run.{OneOf, miss}
-use denote.Enum.Declared.{tag_of}
 use Rattle.ledger.specs.Choice.{◌⇒◌∣◌}
 use Rattle.ledger.proofs.Tallies.{both_of, skip}
 use Rattle.paper.specs.Base.{stream}
@@ -16,9 +14,10 @@ use Rattle.paper.specs.Sound.{sound}
 use Rattle.paper.specs.StateRows.{state_rows}
 use Rattle.paper.specs.Step.{serve_by, is_readable, step_by}
 use Rattle.paper.specs.Room.{room_size, room_for}
+use Rattle.paper.specs.declared.PpaNumber.{PpaNumber}
+use Rattle.paper.specs.declared.Frame.{Frame}
 use Rattle.paper.specs.declared.Input.{Input}
 use Rattle.paper.specs.declared.Input.TheVariants as input
-use Rattle.paper.specs.contracts.Input as the-input
 use Rattle.paper.proofs.Records.{least_size, read-long}
 use Rattle.paper.proofs.SoundTests.{few-granted}
 use Rattle.table_image.specs.Layout.{table_of, tidy, sound_image}
@@ -38,28 +37,23 @@ image_grants_few img h = few-granted (table_of img) (parts img h).1
 
 -- ---- what a record asks for, by the tags of what was read
 
--- any but a message
-abbrev no_message : List ℕ
-no_message = 0 ∷ 1 ∷ 2 ∷ 3 ∷ 4 ∷ 6 ∷ 7 ∷ 8 ∷ 9 ∷ 10 ∷ 11 ∷ 12 ∷ []
-
--- any but an opening or a frame
-abbrev of_one : List ℕ
-of_one = 0 ∷ 1 ∷ 5 ∷ 6 ∷ 7 ∷ 8 ∷ 9 ∷ 10 ∷ 11 ∷ []
-
-pub to_stream : (q : Input) → OneOf of_one (tag_of the-input.the_type q) → is_to_stream q ≡ true
-to_stream input.Unreadable k = refl
-to_stream input.Malformed k = refl
-to_stream (input.AddPpa p) k = absurd (miss of_one 2 tt k)
-to_stream input.Open k = absurd (miss of_one 3 tt k)
-to_stream (input.Close i) k = absurd (miss of_one 4 tt k)
-to_stream (input.Message i l n) k = refl
-to_stream (input.CallArrives p sap) k = refl
-to_stream (input.PeerAccepted i) k = refl
-to_stream (input.PeerGone i reason) k = refl
-to_stream (input.CallWithdrawn i n reason) k = refl
-to_stream (input.PeerReset i reason) k = refl
-to_stream (input.ResetConfirmed i) k = refl
-to_stream (input.Frame f) k = absurd (miss of_one 12 tt k)
+pub to_stream : (q : Input) → ((p : PpaNumber) → q ≡ input.AddPpa p → ⊥)
+    → (q ≡ input.Open → ⊥)
+    → ((i : ℕ) → q ≡ input.Close i → ⊥)
+    → ((f : Frame) → q ≡ input.Frame f → ⊥) → is_to_stream q ≡ true
+to_stream input.Unreadable n1 n2 n3 n4 = refl
+to_stream input.Malformed n1 n2 n3 n4 = refl
+to_stream (input.AddPpa p) n1 n2 n3 n4 = absurd (n1 p refl)
+to_stream input.Open n1 n2 n3 n4 = absurd (n2 refl)
+to_stream (input.Close i) n1 n2 n3 n4 = absurd (n3 i refl)
+to_stream (input.Message i l n) n1 n2 n3 n4 = refl
+to_stream (input.CallArrives p sap) n1 n2 n3 n4 = refl
+to_stream (input.PeerAccepted i) n1 n2 n3 n4 = refl
+to_stream (input.PeerGone i reason) n1 n2 n3 n4 = refl
+to_stream (input.CallWithdrawn i n reason) n1 n2 n3 n4 = refl
+to_stream (input.PeerReset i reason) n1 n2 n3 n4 = refl
+to_stream (input.ResetConfirmed i) n1 n2 n3 n4 = refl
+to_stream (input.Frame f) n1 n2 n3 n4 = absurd (n4 f refl)
 
 -- for which 128 bytes are room enough
 pub one_room : (q : Input) → is_to_stream q ≡ true → room_for q ≡ room_size
@@ -77,39 +71,35 @@ one_room (input.PeerReset i reason) k = refl
 one_room (input.ResetConfirmed i) k = refl
 one_room (input.Frame f) k = absurd (false≢true k)
 
-pub from_line : (q : Input) → is_to_stream q ≡ true → OneOf no_message (tag_of the-input.the_type q) → is_of_line q ≡ true
-from_line input.Unreadable h k = refl
-from_line input.Malformed h k = refl
-from_line (input.AddPpa p) h k = absurd (false≢true h)
-from_line input.Open h k = absurd (false≢true h)
-from_line (input.Close i) h k = absurd (false≢true h)
-from_line (input.Message i l n) h k = absurd (miss no_message 5 tt k)
-from_line (input.CallArrives p sap) h k = refl
-from_line (input.PeerAccepted i) h k = refl
-from_line (input.PeerGone i reason) h k = refl
-from_line (input.CallWithdrawn i n reason) h k = refl
-from_line (input.PeerReset i reason) h k = refl
-from_line (input.ResetConfirmed i) h k = refl
-from_line (input.Frame f) h k = absurd (false≢true h)
+pub from_line : (q : Input) → is_to_stream q ≡ true → ((i : ℕ) (l : ℕ) (n : ℕ) → q ≡ input.Message i l n → ⊥) → is_of_line q ≡ true
+from_line input.Unreadable h n = refl
+from_line input.Malformed h n = refl
+from_line (input.AddPpa p) h n = absurd (false≢true h)
+from_line input.Open h n = absurd (false≢true h)
+from_line (input.Close i) h n = absurd (false≢true h)
+from_line (input.Message i l n) h n = absurd (n i l n refl)
+from_line (input.CallArrives p sap) h n = refl
+from_line (input.PeerAccepted i) h n = refl
+from_line (input.PeerGone i reason) h n = refl
+from_line (input.CallWithdrawn i n reason) h n = refl
+from_line (input.PeerReset i reason) h n = refl
+from_line (input.ResetConfirmed i) h n = refl
+from_line (input.Frame f) h n = absurd (false≢true h)
 
--- any but a frame
-abbrev no_frame : List ℕ
-no_frame = 0 ∷ 1 ∷ 2 ∷ 3 ∷ 4 ∷ 5 ∷ 6 ∷ 7 ∷ 8 ∷ 9 ∷ 10 ∷ 11 ∷ []
-
-pub plain_room : (q : Input) → OneOf no_frame (tag_of the-input.the_type q) → room_size ≡ room_for q
-plain_room input.Unreadable k = refl
-plain_room input.Malformed k = refl
-plain_room (input.AddPpa p) k = refl
-plain_room input.Open k = refl
-plain_room (input.Close i) k = refl
-plain_room (input.Message i l n) k = refl
-plain_room (input.CallArrives p sap) k = refl
-plain_room (input.PeerAccepted i) k = refl
-plain_room (input.PeerGone i reason) k = refl
-plain_room (input.CallWithdrawn i n reason) k = refl
-plain_room (input.PeerReset i reason) k = refl
-plain_room (input.ResetConfirmed i) k = refl
-plain_room (input.Frame f) k = absurd (miss no_frame 12 tt k)
+pub plain_room : (q : Input) → ((f : Frame) → q ≡ input.Frame f → ⊥) → room_size ≡ room_for q
+plain_room input.Unreadable n = refl
+plain_room input.Malformed n = refl
+plain_room (input.AddPpa p) n = refl
+plain_room input.Open n = refl
+plain_room (input.Close i) n = refl
+plain_room (input.Message i l n) n = refl
+plain_room (input.CallArrives p sap) n = refl
+plain_room (input.PeerAccepted i) n = refl
+plain_room (input.PeerGone i reason) n = refl
+plain_room (input.CallWithdrawn i n reason) n = refl
+plain_room (input.PeerReset i reason) n = refl
+plain_room (input.ResetConfirmed i) n = refl
+plain_room (input.Frame f) n = absurd (n f refl)
 
 -- a record that was read has at least its size
 pub read_whole : (r : List ℕ) (q : Input) → input_of r ≡ q → least_size q ≤ length r

@@ -5,11 +5,8 @@ use mathlib.Core.Path.{◌≡◌, refl, sym, ap, ◌∙◌}
 use mathlib.Core.Bool.{Bool, true, false, false≢true}
 use mathlib.Core.List.{List, [], ◌∷◌}
 use lib.ListN.{length}
-use types.Run.{OneOf, miss}
-use denote.Enum.Declared.{tag_of}
 use borrow.Author.Tests.{ltb-true}
 use Rattle.ledger.specs.Choice.{◌⇒◌∣◌}
-use Rattle.paper.specs.contracts.Input as the-input
 use Rattle.paper.specs.Base.{Table, slot, stream, waiting}
 use Rattle.paper.specs.Refusals.{Outcome, not_aRecord, refused}
 use Rattle.paper.specs.StateRows.{state_rows, found, is_found}
@@ -17,6 +14,8 @@ use Rattle.paper.specs.Sight.{nothing, brings, letter_of, answer_to, sight_by}
 use Rattle.paper.specs.Effects.{event_effect}
 use Rattle.paper.specs.Decide.{is_due, decide_by}
 use Rattle.paper.specs.Step.{conclude, comes, serve_by}
+use Rattle.paper.specs.declared.PpaNumber.{PpaNumber}
+use Rattle.paper.specs.declared.Correlation.{Correlation}
 use Rattle.paper.specs.declared.Input.{Input}
 use Rattle.paper.specs.declared.Input.TheVariants as input
 use Rattle.paper.specs.declared.Stream.{Stream}
@@ -87,21 +86,22 @@ place t i e f x s w d h z g k = has-place t i x s e (due t i e x (sym d ∙ h)) 
 
 -- ---- of the records that bring no event, those that are not the line's are ruled out, and the others cannot be read
 
--- by their tags
-abbrev eventless : List ℕ
-eventless = 0 ∷ 1 ∷ 2 ∷ 3 ∷ 4 ∷ 5 ∷ 12 ∷ []
-
-pub not-read : (t : Table) (r : List ℕ) (q : Input) → OneOf eventless (tag_of the-input.the_type q) → is_of_line q ≡ true → refused t not_aRecord ≡ serve_by state_rows t r q
-not-read t r input.Unreadable k h = refl
-not-read t r input.Malformed k h = refl
-not-read t r (input.AddPpa p) k h = absurd (false≢true h)
-not-read t r input.Open k h = absurd (false≢true h)
-not-read t r (input.Close i) k h = absurd (false≢true h)
-not-read t r (input.Message i l n) k h = absurd (false≢true h)
-not-read t r (input.CallArrives p sap) k h = absurd (miss eventless 6 tt k)
-not-read t r (input.PeerAccepted i) k h = absurd (miss eventless 7 tt k)
-not-read t r (input.PeerGone i reason) k h = absurd (miss eventless 8 tt k)
-not-read t r (input.CallWithdrawn i n reason) k h = absurd (miss eventless 9 tt k)
-not-read t r (input.PeerReset i reason) k h = absurd (miss eventless 10 tt k)
-not-read t r (input.ResetConfirmed i) k h = absurd (miss eventless 11 tt k)
-not-read t r (input.Frame f) k h = absurd (false≢true h)
+pub not-read : (t : Table) (r : List ℕ) (q : Input) → ((p : PpaNumber) (sap : ℕ) → q ≡ input.CallArrives p sap → ⊥)
+    → ((i : ℕ) → q ≡ input.PeerAccepted i → ⊥)
+    → ((i : ℕ) (reason : ℕ) → q ≡ input.PeerGone i reason → ⊥)
+    → ((i : ℕ) (n : Correlation) (reason : ℕ) → q ≡ input.CallWithdrawn i n reason → ⊥)
+    → ((i : ℕ) (reason : ℕ) → q ≡ input.PeerReset i reason → ⊥)
+    → ((i : ℕ) → q ≡ input.ResetConfirmed i → ⊥) → is_of_line q ≡ true → refused t not_aRecord ≡ serve_by state_rows t r q
+not-read t r input.Unreadable n1 n2 n3 n4 n5 n6 h = refl
+not-read t r input.Malformed n1 n2 n3 n4 n5 n6 h = refl
+not-read t r (input.AddPpa p) n1 n2 n3 n4 n5 n6 h = absurd (false≢true h)
+not-read t r input.Open n1 n2 n3 n4 n5 n6 h = absurd (false≢true h)
+not-read t r (input.Close i) n1 n2 n3 n4 n5 n6 h = absurd (false≢true h)
+not-read t r (input.Message i l n) n1 n2 n3 n4 n5 n6 h = absurd (false≢true h)
+not-read t r (input.CallArrives p sap) n1 n2 n3 n4 n5 n6 h = absurd (n1 p sap refl)
+not-read t r (input.PeerAccepted i) n1 n2 n3 n4 n5 n6 h = absurd (n2 i refl)
+not-read t r (input.PeerGone i reason) n1 n2 n3 n4 n5 n6 h = absurd (n3 i reason refl)
+not-read t r (input.CallWithdrawn i n reason) n1 n2 n3 n4 n5 n6 h = absurd (n4 i n reason refl)
+not-read t r (input.PeerReset i reason) n1 n2 n3 n4 n5 n6 h = absurd (n5 i reason refl)
+not-read t r (input.ResetConfirmed i) n1 n2 n3 n4 n5 n6 h = absurd (n6 i refl)
+not-read t r (input.Frame f) n1 n2 n3 n4 n5 n6 h = absurd (false≢true h)

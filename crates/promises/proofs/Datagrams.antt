@@ -176,6 +176,7 @@ frame_leaves_image img r room h =
 
 frame_records : (t : Table) (r : List ℕ) (f : Frame) {o : Outcome} → Way state_rows t r (input.Frame f) o → o.refusal ≡ 0 → o.records ≡ indications r f (shown_to state_rows t r f)
 frame_records t r f (refusing some few) z = absurd (omega (arith, some, z))
+frame_records t r f (bringing {i = i} {e = e} y _ _) z = elim y [ ]
 frame_records t r f (showing few y) z = refl
 
 -- A frame that is not refused is shown, by one UNITDATA_IND and its M each, to the streams of one list, in its order, and nothing else is

@@ -62,6 +62,7 @@ module _ (t : Table) (r : List ℕ) (room i l n : ℕ) where
     roomy = b;
     answer = subst (λ (w : Asked). Replied state_rows t i (message_in r l) r w o) (sym e) a;
   }
+  served-passed b (bringing {e = e} y _ _) z = elim y [ ]
 
   step-passed : sound t ≡ true → input_of r ≡ input.Message i l n → (step t r room).refusal ≡ 0 → Passed t r room i l n (step t r room)
   step-passed k e =

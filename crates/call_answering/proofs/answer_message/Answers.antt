@@ -1,0 +1,37 @@
+-- A message asks for a request, which is answered, or breaks a rule of step 1 and is an error.
+use Prim.Native.Nat.{ℕ}
+use mathlib.Core.Path.{sym, ap₂, ◌∙◌}
+use Rattle.paper.specs.StateRows.{state_rows}
+use Rattle.paper.specs.Sight.{sends}
+use Rattle.paper.specs.Step.{comes}
+use Rattle.paper.specs.declared.Asked.{Asked}
+use Rattle.table_image.specs.Layout.{table_of}
+use Rattle.call_answering.proofs.Laws.{wrong, error_placed}
+use borrow.Author.Rules.{rules}
+use Rattle.call_answering.proofs.answer_message.Goals as goal
+
+pub returns-in-Wrong : goal.returns-in-Wrong
+returns-in-Wrong c =
+    let t = table_of c.args.img.now in
+    let i = c.args.i in
+    let effect = c.error_effect.ensures in
+    λ r. record {
+      comes =
+          wrong t i r _ _ _ effect
+          ∙ ap₂ (λ (n : ℕ) (q : Asked). comes state_rows t i r (sends n q)) c.code_in-code.ensures
+          (sym c.in-Wrong.is ∙ c.asked_by-asked.ensures);
+      fits = error_placed _ c.requires.at.within _ effect;
+    }
+
+pub returns-in-For : goal.returns-in-For
+returns-in-For c =
+    let t = table_of c.args.img.now in
+    let i = c.args.i in
+    let answered = c.answer_request.ensures in
+    λ r. record {
+      comes =
+          (answered r).comes
+          ∙ ap₂ (λ (n : ℕ) (q : Asked). comes state_rows t i r (sends n q)) c.code_in-code.ensures
+          (sym c.in-For.is ∙ c.asked_by-asked.ensures);
+      fits = (answered r).fits;
+    }

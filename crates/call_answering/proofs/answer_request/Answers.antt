@@ -1,0 +1,28 @@
+-- A request is answered by its state row: with none it is an error, else what the judged request comes to. No message takes an
+-- open indication, so there is always a place; and each effect fits the room.
+use mathlib.Core.Path.{ap, ◌∙◌}
+use Rattle.paper.specs.Effects.{error_effect}
+use Rattle.table_image.specs.Layout.{table_of}
+use Rattle.call_answering.proofs.Laws.{no_row, by_row, error_placed, message-placed}
+use borrow.Author.Rules.{rules}
+use Rattle.call_answering.proofs.answer_request.Goals as goal
+
+pub returns-in-Missing : goal.returns-in-Missing
+returns-in-Missing c =
+    let effect = c.error_effect.ensures ∙ ap (error_effect c.args.code) c.without_row-no_row.ensures in
+    λ r. record {
+      comes =
+          no_row (table_of c.args.img.now) c.args.i r c.args.code c.args.q _ _ c.load_stream-s.ensures
+          c.request_row-found.ensures _ c.in-Missing.is effect;
+      fits = error_placed _ c.requires.within _ effect;
+    }
+
+pub returns-in-At : goal.returns-in-At
+returns-in-At c =
+    let effect = c.effect_by-e.ensures in
+    λ r. record {
+      comes =
+          by_row (table_of c.args.img.now) c.args.i r c.args.code c.args.q _ _ c.load_stream-s.ensures
+          c.request_row-found.ensures _ _ _ c.in-At.is c.judged_request-judged.ensures effect;
+      fits = message-placed _ c.requires.within _ _ _ _ _ effect;
+    }

@@ -1,0 +1,28 @@
+-- By no row an event is refused, else it does what its row says; a call that is due finds a place.
+use mathlib.Core.Path.{sym, subst}
+use Rattle.paper.specs.Room.{Fits}
+use Rattle.paper.proofs.Effects.{event_fits}
+use Rattle.table_image.specs.Layout.{table_of}
+use Rattle.call_events.proofs.Laws.{no_row, by_row, place}
+use borrow.Author.Rules.{rules}
+use Rattle.call_events.proofs.come.Goals as goal
+
+pub returns-in-Missing : goal.returns-in-Missing
+returns-in-Missing c =
+    let t = table_of c.args.img.now in
+    λ r. record { comes = no_row t c.args.i r c.args.refusal c.args.event _ c.row_of-found.ensures c.in-Missing.is; fits = c.requires.numbered }
+
+pub returns-in-At : goal.returns-in-At
+returns-in-At c =
+    let t = table_of c.args.img.now in
+    let i = c.args.i in
+    let row = c.row_of-found.ensures in
+    let effect = c.event_effect.ensures in
+    λ r. record {
+      comes = by_row t i r c.args.refusal c.args.event _ row _ _ _ c.in-At.is c.load_stream-s.ensures effect;
+      fits = record {
+        within = c.requires.at.within;
+        place = place t i c.args.event _ _ _ _ row c.in-At.is effect c.requires.granted;
+        fits = subst Fits (sym effect) (event_fits _ _ c.args.event);
+      };
+    }

@@ -1,0 +1,24 @@
+-- Each turn writes the text of the next stream, so the streams that follow lead to the same text.
+use Prim.Native.Nat.{ℕ, ◌+◌, ◌*◌, ◌-◌, ◌≤◌}
+use native.Mathlib.Omega.{arith}
+use mathlib.Core.Path.{◌≡◌, refl}
+use mathlib.Core.List.{List}
+use lib.ListN.{length}
+use borrow.Author.Rules.{rules}
+use Rattle.octets.proofs.Writing.{Unwritten, all_unwritten, less_unwritten, none_unwritten, wrote-most, wrote_of}
+use Rattle.paper.specs.Base.{stream_total}
+use Rattle.fates_report.specs.Report.{end_text, end_texts, end_size}
+use Rattle.fates_report.proofs.Laws.{ends-end, ends_next}
+use Rattle.fates_report.proofs.put_ends.Given as goal
+
+pub record ToCome (out₀ : List ℕ) (at : ℕ) (register out : List ℕ) (e i : ℕ) : Type 0 where
+  pub within : i ≤ stream_total
+  pub few : e ≤ at + end_size * i
+  pub long : length out ≡ length out₀
+  pub rest : Unwritten out₀ at (end_texts stream_total 0 register) out e (end_texts (stream_total - i) i register)
+
+abbrev pub invariant-loop-i : goal.invariant-loop-i
+invariant-loop-i l = ToCome l.initial.out l.at l.register l.out l.e l.i
+
+abbrev pub decreases-loop-i : goal.decreases-loop-i
+decreases-loop-i l = stream_total - l.i

@@ -1,0 +1,23 @@
+-- Each turn writes the first of the numbers that are left, so those that are left lead to the same text.
+use Prim.Native.Nat.{ℕ, ◌+◌, ◌*◌, ◌-◌, ◌≤◌}
+use native.Mathlib.Omega.{arith}
+use mathlib.Core.Path.{◌≡◌, refl}
+use mathlib.Core.List.{List}
+use lib.ListN.{length, get_or}
+use borrow.Author.Rules.{rules}
+use Rattle.octets.proofs.Writing.{Unwritten, all_unwritten, less_unwritten, none_unwritten, wrote-most, wrote_of}
+use Rattle.fates_report.specs.Report.{spaced_number, numbers, spaced_size}
+use Rattle.fates_report.proofs.Laws.{numbers-end, numbers-next}
+use Rattle.fates_report.proofs.put_numbers.Given as goal
+
+pub record ToCome (out₀ : List ℕ) (at : ℕ) (register : List ℕ) (c k : ℕ) (out : List ℕ) (e cell left : ℕ) : Type 0 where
+  pub stands : cell + left ≡ c + k
+  pub few : e + spaced_size * left ≤ at + spaced_size * k
+  pub long : length out ≡ length out₀
+  pub rest : Unwritten out₀ at (numbers k c register) out e (numbers left cell register)
+
+abbrev pub invariant-loop-left : goal.invariant-loop-left
+invariant-loop-left l = ToCome l.initial.out l.at l.register l.c l.k l.out l.e l.cell l.left
+
+abbrev pub decreases-loop-left : goal.decreases-loop-left
+decreases-loop-left l = l.left

@@ -1,0 +1,32 @@
+-- The streams before i have passed.
+use Prim.Native.Nat.{◌-◌}
+use mathlib.Core.Path.{◌∙◌, sym, refl}
+use borrow.Author.Rules.{rules}
+use native.Mathlib.Omega.{arith}
+use Rattle.paper.specs.Base.{closed, stream_total}
+use Rattle.table_image.specs.Layout.{table_of}
+use Rattle.table_soundness.specs.Groups.{is_stream_sound}
+use Rattle.ledger.proofs.Tallies.{test_held, test_failed}
+use Rattle.ledger.proofs.Walks.{all_passed, all_fails, all_on, all_ends}
+use Rattle.table_soundness.proofs.are_streams_sound.Goals as goal
+
+pub loop-i-init : goal.loop-i-init
+loop-i-init c = refl
+
+pub returns-then-not-is_stream_sound : goal.returns-then-not-is_stream_sound
+returns-then-not-is_stream_sound c =
+    let img = c.args.img.now in
+    let l = c.loop-i in
+    all_fails closed (table_of img).slots l.i (omega (arith, c.requires.shaped.sixteen)) (is_stream_sound (table_of img)) l.invariant (sym c.is_stream_sound.ensures ∙ c.if-not-is_stream_sound.true)
+
+pub loop-i-preserved : goal.loop-i-preserved
+loop-i-preserved c =
+    let img = c.args.img.now in
+    let l = c.loop-i in
+    all_on closed (table_of img).slots l.i (omega (arith, c.requires.shaped.sixteen)) (is_stream_sound (table_of img)) l.invariant (sym c.is_stream_sound.ensures ∙ c.if-not-is_stream_sound.false)
+
+pub returns : goal.returns
+returns c =
+    let img = c.args.img.now in
+    let l = c.loop-i in
+    all_ends (table_of img).slots l.i (omega (arith, c.requires.shaped.sixteen)) (is_stream_sound (table_of img)) l.invariant
