@@ -25,7 +25,7 @@ use Rattle.paper.specs.declared.Request.{Request}
 use Rattle.paper.specs.declared.Rule.{Rule}
 use Rattle.paper.specs.declared.Service.{Service}
 use Rattle.paper.specs.declared.Verdict.TheVariants.{Serves, Fails}
-use Rattle.paper.proofs.Walk.{Replied, Sent, Way, refusing, answering, walk, step_by_lem}
+use Rattle.paper.proofs.Walk.{Replied, Sent, Way, refusing, answering, bringing, walk, step_by_lem}
 use Rattle.paper.proofs.Effects.{errors_in}
 use Rattle.table_image.specs.Layout.{table_of, sound_image}
 use Rattle.call_outcomes.specs.Leaving.{Left}

@@ -112,11 +112,11 @@ module _ (t : Table) (k : Sound t) (r : List ℕ) where
     says_closes : {o : Outcome} → Way state_rows t r (input.Close i) o → CallSays (input.Close i) (map (λ (n : ℕ). Went i n Dropped) (waiting t i)) o
     unfolding goodbyes
     says_closes (refusing some few) z = absurd (omega (arith, some, z))
+    says_closes (bringing {e = e} y _ _) z = elim y [ ]
     says_closes (closing u) z =
         chosen Drops _ _ _ (λ e. drops (waiting t i) (λ n o. open_nonzero t k i n (lt-ltb 0 (occ n (waiting t i)) o)))
         (λ e. rw (empty (waiting t i) (quiet (ppa_numbers t) (slot t i) (k.each i) e))
         (chosen (λ (rs : List Record). telling (map (line_of (input.Close i)) rs) ≡ []) _ _ _ (λ f. refl) (λ f. refl)))
-    says_closes (bringing {e = e} y _ _) z = elim y [ ]
       where
         Drops : List Record → Type 0
         Drops rs = telling (map (line_of (input.Close i)) rs) ≡ map (λ (n : ℕ). Went i n Dropped) (waiting t i)

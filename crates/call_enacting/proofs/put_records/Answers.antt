@@ -8,42 +8,20 @@ use Rattle.paper.specs.Effects.{orders_in, ups_in, told}
 use Rattle.paper.proofs.RecordsOut.{bytes_in_order}
 use Rattle.table_image.specs.Layout.{table_of}
 use borrow.Author.Rules.{rules}
-use Rattle.call_enacting.proofs.put_records.Statement.{statement}
 use Rattle.octets.proofs.Writing.{wrote-next, wrote-most, wrote_of}
-use Rattle.call_enacting.proofs.put_records.Tie as tie
+use Rattle.call_enacting.proofs.put_records.Goals as goal
 
-returns : tie.Need-returns
+pub returns : goal.returns
 unfolding told
 returns c =
-    let at-put-replies = c.before.before in
-    let at-put-flush-if = at-put-replies.before.before.before.before in
-    let at-put-orders = at-put-flush-if.before.before.before.before in
-    let a = at-put-orders.before.before.before.before.before.args in
+    let a = c.args in
     let t = table_of a.img.now in
-    let orders = at-put-orders.put-orders.ensures in
-    let flush = at-put-flush-if.put-flush-if.ensures in
-    let ups = at-put-replies.put-replies.ensures in
+    let orders = c.put_orders-a.ensures in
+    let flush = c.put_flush_if.ensures in
+    let ups = c.put_replies.ensures in
     let one = all_bytes (orders_in a.i a.c (slot t a.i) a.r.now a.e.order) in
     let two = all_bytes (flush_if a.e.flush a.i) in
     let three = all_bytes (ups_in a.i (mac_at t a.i) a.r.now a.e.up) in
     rw bytes_in_order
     (wrote-most (omega (arith, orders.few, flush.few, ups.few))
     (wrote-next (one ++ two) three (wrote-next one two (orders.each (slot t a.i)) (wrote_of flush)) (wrote_of ups)))
-
-pub put-records-spec : {M : Type 1} → statement M
-put-records-spec =
-    tie.close
-    (tie.spec
-    (λ c κs. search rules)
-    (λ c. search rules)
-    (λ c. search rules)
-    (λ c. search rules)
-    (λ c κs. search rules)
-    (λ c. search rules)
-    (λ c. search rules)
-    (λ c. search rules)
-    (λ c. search rules)
-    (λ c κs. search rules)
-    (λ c. search rules)
-    (λ c. search rules)
-    returns)

@@ -16,11 +16,10 @@ use Rattle.table_image.proofs.Shapes.{mac-length}
 use Rattle.call_enacting.specs.Behind.{own_behind, behind_by}
 use Rattle.call_enacting.proofs.Laws.{behind_reply_lem}
 use borrow.Author.Rules.{rules}
-use Rattle.call_enacting.proofs.put_reply.Statement.{statement}
 use Rattle.octets.specs.Writing.{WroteMost}
 use Rattle.paper.specs.Replies.{most_tail}
 use Rattle.octets.proofs.Writing.{wrote-same, wrote_of, wrote-over}
-use Rattle.call_enacting.proofs.put_reply.Tie as tie
+use Rattle.call_enacting.proofs.put_reply.Goals as goal
 
 -- what is handed on: the first n bytes of x, which begins with the stream's own address, or addresses of the event's record
 handed : (mac m l : List ℕ) (r : Reply) {n : ℕ} {x y : List ℕ} → WroteMost most_tail (own_behind mac r) 0 n l x
@@ -28,37 +27,18 @@ handed : (mac m l : List ℕ) (r : Reply) {n : ℕ} {x y : List ℕ} → WroteMo
 handed mac m l r {n} w e =
     e ∙ ap (λ (own : List ℕ). behind_by own m r) (over_begins (own_behind mac r) l (n - 0) (wrote-over (own_behind mac r) (wrote_of w)) (omega (arith, w.ends))) ∙ behind_reply_lem mac m r
 
-put-up-requires : tie.Need-put-up-requires
-put-up-requires c κs =
-    let at-put-own-address = c.before.before.before.before.before in
-    let a = at-put-own-address.before.before.before.before.before in
-    let mac = mac_at (table_of a.args.img.now) a.args.i in
-    let m = a.args.r.now in
-    let own = at-put-own-address.put-own-address.ensures in
-    let tail = handed mac m (replicate most_tail 0) a.args.reply own c.before.behind.ensures in
-    record { short = rw tail (tail_most mac (mac-length _ a.requires.at.lent.shaped _) m a.args.reply); roomy = search rules }
+pub put_up-requires : goal.put_up-requires
+put_up-requires c =
+    let mac = mac_at (table_of c.args.img.now) c.args.i in
+    let m = c.args.r.now in
+    let own = c.put_own_address-size.ensures in
+    let tail = handed mac m (replicate most_tail 0) c.args.reply own c.behind-tail.ensures in
+    record { short = rw tail (tail_most mac (mac-length _ c.requires.at.lent.shaped _) m c.args.reply); roomy = search rules }
 
-returns : tie.Need-returns
+pub returns : goal.returns
 returns c =
-    let at-put-up = c.before.before in
-    let at-behind = at-put-up.before.before in
-    let at-put-own-address = at-behind.before.before.before.before in
-    let a = at-put-own-address.before.before.before.before.before.args in
+    let a = c.args in
     let mac = mac_at (table_of a.img.now) a.i in
-    let own = at-put-own-address.put-own-address.ensures in
-    let tail = handed mac a.r.now (replicate most_tail 0) a.reply own at-behind.behind.ensures in
-    wrote-same (ap (λ (l : List ℕ). bytes_of (up a.i a.reply l)) tail) at-put-up.put_up.ensures
-
-pub put-reply-spec : {M : Type 1} → statement M
-put-reply-spec =
-    tie.close
-    (tie.spec
-    (λ c. search rules)
-    (λ c κs. search rules)
-    (λ c. search rules)
-    (λ c. search rules)
-    (λ c. search rules)
-    (λ c κs. search rules)
-    put-up-requires
-    (λ c. search rules)
-    returns)
+    let own = c.put_own_address-size.ensures in
+    let tail = handed mac a.r.now (replicate most_tail 0) a.reply own c.behind-tail.ensures in
+    wrote-same (ap (λ (l : List ℕ). bytes_of (up a.i a.reply l)) tail) c.put_up.ensures

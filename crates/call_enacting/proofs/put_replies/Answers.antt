@@ -1,0 +1,30 @@
+-- No reply writes nothing, and one is written as a message up, which is a record's 99 bytes.
+use native.Mathlib.Omega.{arith}
+use Prim.Native.Nat.{◌≤◌}
+use mathlib.Core.Path.{refl, subst}
+use lib.ListN.{length}
+use Rattle.paper.specs.Base.{mac_at}
+use Rattle.paper.specs.RecordsOut.{up}
+use Rattle.paper.specs.Effects.{behind_reply, ups_in}
+use Rattle.paper.specs.Room.{most_said}
+use Rattle.paper.specs.declared.Saying.{Saying}
+use Rattle.table_image.specs.Layout.{table_of}
+use borrow.Author.Rules.{rules}
+use Rattle.paper.proofs.RecordsOut.{one_wrote}
+use Rattle.call_enacting.proofs.put_replies.Goals as goal
+
+pub put_reply-requires : goal.put_reply-requires
+put_reply-requires c =
+    record { at = c.requires.at; roomy = subst (λ (u : Saying). most_said u ≤ length c.args.room.now) c.in-Says.is c.requires.roomy }
+
+pub returns-in-Unsaid : goal.returns-in-Unsaid
+unfolding ups_in
+returns-in-Unsaid c = rw c.in-Unsaid.is (record { few = omega arith; ends = refl; stands = refl })
+
+pub returns-in-Says : goal.returns-in-Says
+unfolding ups_in
+returns-in-Says c =
+    let a = c.args in
+    let r = c.in-Says.reply in
+    let record-up = up a.i r (behind_reply (mac_at (table_of a.img.now) a.i) a.r.now r) in
+    rw c.in-Says.is (one_wrote record-up record-up refl c.put_reply.ensures)
