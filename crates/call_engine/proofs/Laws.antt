@@ -35,7 +35,7 @@ parts img h = both_of (tidy img) (sound (table_of img)) h
 pub image_grants_few : (img : List ℕ) → sound_image img ≡ true → (i : ℕ) → (stream (table_of img) i).granted ≤ most_open
 image_grants_few img h = few-granted (table_of img) (parts img h).1
 
--- ---- what a record asks for, by the tags of what was read
+-- ---- what a record asks for, by what was read
 
 pub to_stream : (q : Input) → ((p : PpaNumber) → q ≡ input.AddPpa p → ⊥)
     → (q ≡ input.Open → ⊥)
@@ -72,34 +72,34 @@ one_room (input.ResetConfirmed i) k = refl
 one_room (input.Frame f) k = absurd (false≢true k)
 
 pub from_line : (q : Input) → is_to_stream q ≡ true → ((i : ℕ) (l : ℕ) (n : ℕ) → q ≡ input.Message i l n → ⊥) → is_of_line q ≡ true
-from_line input.Unreadable h n = refl
-from_line input.Malformed h n = refl
-from_line (input.AddPpa p) h n = absurd (false≢true h)
-from_line input.Open h n = absurd (false≢true h)
-from_line (input.Close i) h n = absurd (false≢true h)
-from_line (input.Message i l n) h n = absurd (n i l n refl)
-from_line (input.CallArrives p sap) h n = refl
-from_line (input.PeerAccepted i) h n = refl
-from_line (input.PeerGone i reason) h n = refl
-from_line (input.CallWithdrawn i n reason) h n = refl
-from_line (input.PeerReset i reason) h n = refl
-from_line (input.ResetConfirmed i) h n = refl
-from_line (input.Frame f) h n = absurd (false≢true h)
+from_line input.Unreadable h k = refl
+from_line input.Malformed h k = refl
+from_line (input.AddPpa p) h k = absurd (false≢true h)
+from_line input.Open h k = absurd (false≢true h)
+from_line (input.Close i) h k = absurd (false≢true h)
+from_line (input.Message i l n) h k = absurd (k i l n refl)
+from_line (input.CallArrives p sap) h k = refl
+from_line (input.PeerAccepted i) h k = refl
+from_line (input.PeerGone i reason) h k = refl
+from_line (input.CallWithdrawn i n reason) h k = refl
+from_line (input.PeerReset i reason) h k = refl
+from_line (input.ResetConfirmed i) h k = refl
+from_line (input.Frame f) h k = absurd (false≢true h)
 
 pub plain_room : (q : Input) → ((f : Frame) → q ≡ input.Frame f → ⊥) → room_size ≡ room_for q
-plain_room input.Unreadable n = refl
-plain_room input.Malformed n = refl
-plain_room (input.AddPpa p) n = refl
-plain_room input.Open n = refl
-plain_room (input.Close i) n = refl
-plain_room (input.Message i l n) n = refl
-plain_room (input.CallArrives p sap) n = refl
-plain_room (input.PeerAccepted i) n = refl
-plain_room (input.PeerGone i reason) n = refl
-plain_room (input.CallWithdrawn i n reason) n = refl
-plain_room (input.PeerReset i reason) n = refl
-plain_room (input.ResetConfirmed i) n = refl
-plain_room (input.Frame f) n = absurd (n f refl)
+plain_room input.Unreadable k = refl
+plain_room input.Malformed k = refl
+plain_room (input.AddPpa p) k = refl
+plain_room input.Open k = refl
+plain_room (input.Close i) k = refl
+plain_room (input.Message i l n) k = refl
+plain_room (input.CallArrives p sap) k = refl
+plain_room (input.PeerAccepted i) k = refl
+plain_room (input.PeerGone i reason) k = refl
+plain_room (input.CallWithdrawn i n reason) k = refl
+plain_room (input.PeerReset i reason) k = refl
+plain_room (input.ResetConfirmed i) k = refl
+plain_room (input.Frame f) k = absurd (k f refl)
 
 -- a record that was read has at least its size
 pub read_whole : (r : List ℕ) (q : Input) → input_of r ≡ q → least_size q ≤ length r
