@@ -10,26 +10,17 @@ use Rattle.table_image.specs.Layout.{sound_image}
 use Rattle.call_outcomes.specs.Leaving.{Left, call_made}
 use Rattle.call_outcomes.proofs.Rooms.{SameBack, made_in}
 use Rattle.keeping.proofs.Images.{call_keeps}
-use Rattle.inner.proofs.one_call.Statement.{statement}
-use Rattle.inner.proofs.one_call.Tie as tie
+use Rattle.inner.proofs.one_call.Goals as goal
 
-returns : tie.Need-returns
+pub returns : goal.returns
 returns c =
-    let called = c.before.before.before.before in
-    let lent = called.before.before.before.before in
-    let start = lent.before.before in
-    let a = start.args in
+    let a = c.args in
     let made = call_made a.table.now a.bytes.now in
     let same =
-    subst (λ (l : Left). SameBack l made) (sym called.call-sound.ensures) (made_in a.table.now a.bytes.now a.room.now start.requires.roomy) in
-    let kept = call_keeps a.table.now a.bytes.now (replicate frame_room_size 0) start.requires.sound (λ j. omega (arith, lent.shared-slice-known.given j)) in
+    subst (λ (l : Left). SameBack l made) (sym c.call_sound-answer.ensures) (made_in a.table.now a.bytes.now a.room.now c.requires.roomy) in
+    let kept = call_keeps a.table.now a.bytes.now (replicate frame_room_size 0) c.requires.sound (λ j. omega (arith, c.shared_slice_known-1.given j)) in
     record {
       image = same.image;
       sound = ap sound_image same.image ∙ kept;
       told = ap (λ (k : ℕ). ltb 0 (k / 65536 % 256)) same.number;
     }
-
-pub one-call-spec : {M : Type 1} → statement M
-one-call-spec =
-    tie.close
-    (tie.spec (λ c κs. search rules) (λ c. search rules) (λ c. search rules) returns)
