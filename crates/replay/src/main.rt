@@ -1,4 +1,5 @@
 // Reads records on standard input and prints what the rule paper says of each call: see crates/replay_transcript.
+#![tactic(auto)]
 ghost use Rattle.replay.specs.Printed.{CallRoom, Replayed, Standing, AtTurn, AtCall, Called, Turned, Kept};
 
 use std::io::{Read, Write};
