@@ -1,5 +1,6 @@
 // Reads records on standard input and prints what became of each call that rang in: see docs/FATES.md.
 #![tactic(auto)]
+
 ghost use Rattle.fates.specs.Turns.{CallRoom, CallTold, Standing, AtTurn, AtCall, Called, Turned, Kept};
 
 use std::io::{Read, Write};

@@ -1,5 +1,6 @@
 // Reads records on standard input and prints what the rule paper says of each call: see crates/replay_transcript.
 #![tactic(auto)]
+
 ghost use Rattle.replay.specs.Printed.{CallRoom, Replayed, Standing, AtTurn, AtCall, Called, Turned, Kept};
 
 use std::io::{Read, Write};
@@ -138,11 +139,15 @@ fn main(rt: HostRuntime) {
     let filled = d.filled;
     if d.failed {
         let _ = writer.write_all(&output[0..filled]);
-        let _ = rt.stderr().write_all(b"replay: reading or writing failed\n");
+        let _ = rt
+            .stderr()
+            .write_all(b"replay: reading or writing failed\n");
         return;
     }
     let end = replay_transcript::put_totals(&mut output, filled, d.calls, d.refused);
     if writer.write_all(&output[0..end]).is_err() {
-        let _ = rt.stderr().write_all(b"replay: reading or writing failed\n");
+        let _ = rt
+            .stderr()
+            .write_all(b"replay: reading or writing failed\n");
     }
 }

@@ -1,5 +1,6 @@
 // Where a program stands that reads records on its input and prints a text for each call; how it reads on and writes out.
 #![tactic(auto)]
+
 ghost use Rattle.std.specs.Prelude.{◌≡◌, ◌+◌, ◌<◌, ◌≤◌, length};
 ghost use Rattle.ledger.specs.Tally.{one_if};
 ghost use Rattle.octets.specs.Runs.{part, paste};
