@@ -18,7 +18,7 @@ use Rattle.octets.specs.Numbers.{be32_at}
 use Rattle.octets.specs.Runs.{part, all_zero}
 use Rattle.octets.proofs.Numbers.{be32_at-be32, be32_at-part}
 use Rattle.octets.proofs.Runs.{zero-replicate}
-use Rattle.paper.specs.Base.{number_of, Slot, closed, Table, slot, ppa_numbers, no_ppa, stream, waiting, stream_total, most_ppas}
+use Rattle.paper.specs.Base.{number_of, Slot, closed, Table, slot, ppa_numbers, no_ppa, stream_total, most_ppas}
 use Rattle.paper.specs.Sound.{every, holds_nothing, open_tests, sound_slot, is_single, is_alone, remembers_openings, sound}
 use Rattle.paper.specs.Correlations.{occurrences}
 use Rattle.paper.specs.declared.Stream.{Stream}

@@ -3,7 +3,7 @@ use Rattle.std.specs.Prelude.{ℕ, Bool, List, eqb, ltb, leb}
 use Rattle.ledger.specs.Choice.{pick, both, asks}
 use Rattle.ledger.specs.Tally.{occ, has, all_of}
 use Rattle.ledger.specs.Lists.{joined}
-use Rattle.paper.specs.Base.{is_in, is_among, bound_states, connection_states, Slot, Table, ppa_numbers, stream, waiting}
+use Rattle.paper.specs.Base.{is_in, is_among, bound_states, connection_states, Slot, Table, ppa_numbers}
 use Rattle.paper.specs.Saps.{as_bind_allows}
 use Rattle.paper.specs.Sound.{every, same_answer, unbound, sound_slot, is_alone}
 use Rattle.paper.specs.declared.Stream.{Stream}

@@ -7,7 +7,6 @@ use Rattle.paper.specs.Step.{comes}
 use Rattle.paper.specs.declared.Asked.{Asked}
 use Rattle.table_image.specs.Layout.{table_of}
 use Rattle.call_answering.proofs.Laws.{wrong, error_placed}
-use borrow.Author.Rules.{rules}
 use Rattle.call_answering.proofs.answer_message.Goals as goal
 
 pub returns-in-Wrong : goal.returns-in-Wrong

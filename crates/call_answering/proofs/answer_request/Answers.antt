@@ -4,7 +4,6 @@ use mathlib.Core.Path.{ap, ◌∙◌}
 use Rattle.paper.specs.Effects.{error_effect}
 use Rattle.table_image.specs.Layout.{table_of}
 use Rattle.call_answering.proofs.Laws.{no_row, by_row, error_placed, message-placed}
-use borrow.Author.Rules.{rules}
 use Rattle.call_answering.proofs.answer_request.Goals as goal
 
 pub returns-in-Missing : goal.returns-in-Missing

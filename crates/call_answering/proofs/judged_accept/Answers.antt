@@ -1,7 +1,6 @@
 -- The rules of step 6 are told what the table says of its number, its count and its token.
 use Rattle.paper.specs.Sight.{answer_to}
 use Rattle.paper.specs.ErrorOrder.{judge_request}
-use borrow.Author.Rules.{rules}
 use Rattle.call_answering.proofs.judged_accept.Goals as goal
 
 pub returns : goal.returns

@@ -1,7 +1,6 @@
 -- The rules of step 7 are told whether its number is open.
 use Rattle.paper.specs.Sight.{answer_to}
 use Rattle.paper.specs.ErrorOrder.{judge_request}
-use borrow.Author.Rules.{rules}
 use Rattle.call_answering.proofs.judged_disconnect.Goals as goal
 
 pub returns : goal.returns

@@ -1,7 +1,6 @@
 -- Each request is judged by the rules of its step, and those without rules are served.
 use Rattle.paper.specs.Sight.{answer_to}
 use Rattle.paper.specs.ErrorOrder.{judge_request}
-use borrow.Author.Rules.{rules}
 use Rattle.call_answering.proofs.judged_request.Goals as goal
 
 pub returns-in-Info : goal.returns-in-Info

@@ -1,9 +1,8 @@
 -- A stream of the table settles in state 11; past the table's end the table stays as it was.
-use Rattle.std.proofs.Common.{sym, ap, ◌∙◌, ⊎_elim, rules, ltb-false}
+use Rattle.std.proofs.Common.{sym, ap, ◌∙◌}
 use Rattle.paper.specs.Effects.{carried}
 use Rattle.table_image.specs.Layout.{table_of, image_of}
 use Rattle.call_changes.proofs.Laws.{none_past}
-use Rattle.paper.specs.Base.{stream_total}
 use Rattle.call_changes.proofs.carry.Goals as goal
 use Rattle.call_changes.proofs.carry.Goals.{else-carries-via-then-carries+else-c-lt-STREAM_TOTAL, else-carries-via-else-carries}
 

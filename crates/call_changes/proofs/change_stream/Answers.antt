@@ -1,5 +1,5 @@
 -- Each change is made by what stores it; one that takes an indication is asked for only where there is a place.
-use Rattle.std.proofs.Common.{sym, refl, rules}
+use Rattle.std.proofs.Common.{sym, refl}
 use Rattle.paper.specs.Effects.{changed}
 use Rattle.call_changes.proofs.change_stream.Goals as goal
 

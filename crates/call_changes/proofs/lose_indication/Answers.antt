@@ -1,5 +1,5 @@
 -- The number leaves the stream's, and whether it was the last decides the state.
-use Rattle.std.proofs.Common.{sym, ap, ◌∙◌, rules}
+use Rattle.std.proofs.Common.{sym, ap, ◌∙◌}
 use Rattle.ledger.specs.Tally.{without}
 use Rattle.paper.specs.Base.{waiting, with_numbers}
 use Rattle.paper.specs.Effects.{changed}

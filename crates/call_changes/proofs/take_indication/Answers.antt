@@ -1,5 +1,5 @@
 -- The counter is stored, which leaves the open numbers as they were, and then the number is added.
-use Rattle.std.proofs.Common.{◌<◌, [], ◌∷◌, ◌++◌, length, sym, ◌∙◌, subst, rules}
+use Rattle.std.proofs.Common.{◌<◌, [], ◌∷◌, ◌++◌, length, sym, ◌∙◌, subst}
 use Rattle.paper.specs.Base.{Table, waiting, with_numbers, with_counter}
 use Rattle.paper.specs.Effects.{changed}
 use Rattle.table_image.specs.Layout.{table_of}

@@ -13,7 +13,6 @@ use Rattle.paper.specs.Sight.{brings}
 use Rattle.paper.specs.Step.{comes, arrives}
 use Rattle.paper.specs.declared.Event.TheVariants as event
 use Rattle.table_image.specs.Layout.{table_of}
-use borrow.Author.Rules.{rules}
 use Rattle.paper.specs.Base.{stream_total}
 use Rattle.call_events.proofs.arrives.Goals as goal
 

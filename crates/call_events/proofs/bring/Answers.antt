@@ -2,7 +2,6 @@
 use native.Mathlib.Omega.{arith}
 use Rattle.table_image.specs.Layout.{table_of}
 use Rattle.call_events.proofs.Laws.{not-read}
-use borrow.Author.Rules.{rules}
 use Rattle.call_events.proofs.bring.Goals as goal
 
 pub returns-in-CallArrives : goal.returns-in-CallArrives

@@ -4,7 +4,6 @@ use Rattle.paper.specs.Room.{Fits}
 use Rattle.paper.proofs.Effects.{event_fits}
 use Rattle.table_image.specs.Layout.{table_of}
 use Rattle.call_events.proofs.Laws.{no_row, by_row, place}
-use borrow.Author.Rules.{rules}
 use Rattle.call_events.proofs.come.Goals as goal
 
 pub returns-in-Missing : goal.returns-in-Missing

@@ -6,7 +6,6 @@ use mathlib.Core.List.{List}
 use lib.ListN.{drop}
 use lib.Seq.{take-take}
 use Rattle.octets.specs.Runs.{same_bytes}
-use borrow.Author.Rules.{rules}
 use Rattle.paper.specs.Base.{mac_size, address_size, mac_of}
 use Rattle.table_image.specs.Layout.{table_of}
 use Rattle.call_events.proofs.is_called.Goals as goal

@@ -1,5 +1,4 @@
 -- An indication is due below the granted count, a withdrawal while its number is open, any other event always.
-use borrow.Author.Rules.{rules}
 use Rattle.call_events.proofs.is_due.Goals as goal
 
 pub returns-in-Arrives : goal.returns-in-Arrives

@@ -2,12 +2,10 @@
 use native.Mathlib.Omega.{arith}
 use mathlib.Core.Path.{sym, ap, ◌∙◌}
 use mathlib.Core.Bool.{not}
-use borrow.Author.Tests.{not-false}
 use Rattle.ledger.specs.Choice.{◌⇒◌∣◌}
 use Rattle.paper.specs.Step.{of_open}
 use Rattle.table_image.specs.Layout.{table_of}
 use Rattle.table_image.proofs.Shapes.{open_within}
-use borrow.Author.Rules.{rules}
 use Rattle.call_events.proofs.named.Goals as goal
 
 pub returns-then-not-is_open : goal.returns-then-not-is_open

@@ -2,7 +2,6 @@
 use mathlib.Core.Path.{sym, ap, subst, ◌∙◌}
 use Rattle.table_image.specs.Layout.{table_of}
 use Rattle.call_events.specs.Bringing.{brought_by, Bringable}
-use borrow.Author.Rules.{rules}
 use Rattle.call_events.proofs.occur.Goals as goal
 
 pub come-requires : goal.come-requires

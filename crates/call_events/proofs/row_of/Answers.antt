@@ -1,8 +1,6 @@
 -- Where the event is not due there is no row, and else the row is that of the state.
 use mathlib.Core.Path.{sym, ◌∙◌}
-use borrow.Author.Tests.{not-true, not-false}
 use Rattle.ledger.specs.Choice.{◌⇒◌∣◌}
-use borrow.Author.Rules.{rules}
 use Rattle.call_events.proofs.row_of.Goals as goal
 
 pub returns-then-not-is_due : goal.returns-then-not-is_due

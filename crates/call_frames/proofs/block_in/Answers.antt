@@ -2,7 +2,6 @@
 use native.Mathlib.Omega.{arith}
 use Rattle.octets.proofs.Runs.{part-most}
 use Rattle.paper.proofs.Tails.{form_most}
-use borrow.Author.Rules.{rules}
 use Rattle.call_frames.proofs.block_in.Goals as goal
 
 pub part_at-requires : goal.part_at-requires

@@ -8,7 +8,6 @@ use Rattle.octets.specs.Runs.{same_bytes}
 use Rattle.paper.specs.Base.{mac_size, length_of, mac_of}
 use Rattle.table_image.specs.Layout.{table_of}
 use Rattle.paper.proofs.Tails.{form_least}
-use borrow.Author.Rules.{rules}
 use Rattle.call_frames.proofs.is_called.Goals as goal
 
 pub returns : goal.returns

@@ -1,8 +1,7 @@
 -- The tests stand in the definition's order.
 use mathlib.Core.Path.{sym, ◌∙◌}
-use borrow.Author.Tests.{not-true, not-false, eq-eqb, ne_eqb}
+use borrow.Author.Tests.{eq-eqb, ne_eqb}
 use Rattle.paper.specs.Datagrams.{is_for}
-use borrow.Author.Rules.{rules}
 use Rattle.call_frames.proofs.is_for.Goals as goal
 
 pub returns-then-not-takes_frames : goal.returns-then-not-takes_frames

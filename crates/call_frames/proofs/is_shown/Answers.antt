@@ -1,14 +1,13 @@
 -- A stream bound to another SAP is passed over, and so is a closed one; of any other it is asked whether the frame is for it.
 use mathlib.Core.Path.{sym, ap, ◌∙◌}
 use mathlib.Core.Bool.{Bool}
-use borrow.Author.Tests.{not-true, not-false, ne_eqb}
+use borrow.Author.Tests.{ne_eqb}
 use Rattle.ledger.specs.Choice.{both}
 use Rattle.paper.specs.Base.{slot}
 use Rattle.table_image.specs.Layout.{table_of}
 use Rattle.paper.specs.Datagrams.{is_for, is_shown}
 use Rattle.paper.specs.StateRows.{state_rows}
 use Rattle.call_frames.proofs.Laws.{other_sap}
-use borrow.Author.Rules.{rules}
 use Rattle.call_frames.proofs.is_shown.Goals as goal
 
 pub returns-then-sap_at-f : goal.returns-then-sap_at-f

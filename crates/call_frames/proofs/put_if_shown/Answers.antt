@@ -3,7 +3,6 @@ use Prim.Native.Nat.{ℕ, ◌+◌, ◌*◌}
 use native.Mathlib.Omega.{arith}
 use mathlib.Core.Path.{refl, sym, ap, ◌∙◌}
 use lib.ListN.{length}
-use borrow.Author.Tests.{not-true, not-false}
 use Rattle.octets.proofs.Runs.{part-most}
 use Rattle.octets.proofs.Writing.{wrote-same}
 use Rattle.paper.specs.RecordsIn.{body_size}

@@ -1,22 +1,17 @@
 -- After i turns the indications to the first i streams stand at the room's start, each a pair at most.
-use Prim.Native.Nat.{ℕ, suc, ◌+◌, ◌*◌, ◌-◌, ◌≤◌}
+use Prim.Native.Nat.{ℕ, suc, ◌+◌}
 use native.Mathlib.Omega.{arith}
 use mathlib.Core.Path.{◌≡◌, refl, ap, ◌∙◌}
 use mathlib.Core.List.{List}
-use lib.ListN.{length}
 use borrow.Author.Rules.{rules}
-use Rattle.octets.specs.Writing.{Wrote}
 use Rattle.octets.proofs.Writing.{wrote-next, wrote-most, wrote_of, wrote_as, wrote-same}
-use Rattle.paper.specs.Base.{Table, stream_total}
-use Rattle.paper.specs.RecordsIn.{pair_size}
+use Rattle.paper.specs.Base.{stream_total}
 use Rattle.paper.specs.RecordsOut.{all_bytes}
 use Rattle.paper.specs.Datagrams.{shown_below, indications}
 use Rattle.paper.specs.StateRows.{state_rows}
-use Rattle.paper.specs.declared.Frame.{Frame}
 use Rattle.table_image.specs.Layout.{table_of}
 use Rattle.call_frames.specs.Showing.{if_shown}
 use Rattle.call_frames.proofs.Laws.{shown_append}
-use Rattle.call_frames.proofs.put_indications.Invariants.{Turned}
 use Rattle.call_frames.proofs.put_indications.Goals as goal
 
 pub loop-i-init : goal.loop-i-init

@@ -4,7 +4,7 @@ use native.Mathlib.Omega.{arith}
 use mathlib.Core.Path.{refl, sym, ap, ◌∙◌}
 use mathlib.Core.Bool.{not}
 use mathlib.Core.List.{List}
-use borrow.Author.Tests.{lt-ltb, le-ltb, not-true, not-false}
+use borrow.Author.Tests.{lt-ltb, le-ltb}
 use Rattle.octets.proofs.Writing.{wrote_of, wrote_as}
 use Rattle.paper.specs.Refusals.{over_long, nobody_there}
 use Rattle.paper.specs.RecordsOut.{all_bytes}
@@ -13,7 +13,6 @@ use Rattle.paper.specs.StateRows.{state_rows}
 use Rattle.table_image.specs.Layout.{table_of}
 use Rattle.call_outcomes.proofs.Laws.{leaves_refused, leaves_served, where_true, where_false}
 use Rattle.call_frames.proofs.Laws.{not_called, called}
-use borrow.Author.Rules.{rules}
 use Rattle.call_frames.proofs.show.Goals as goal
 
 pub returns-then-f-gt-MOST_DATA : goal.returns-then-f-gt-MOST_DATA

@@ -2,7 +2,6 @@
 use mathlib.Core.Path.{refl}
 use mathlib.Core.List.{[]}
 use borrow.Author.Tests.{le-leb, lt-leb}
-use borrow.Author.Rules.{rules}
 use Rattle.ledger.specs.Choice.{◌⇒◌∣◌}
 use Rattle.paper.specs.Base.{with_ppa}
 use Rattle.paper.specs.Openings.{adds_ppa}

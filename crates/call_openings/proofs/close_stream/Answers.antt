@@ -1,7 +1,5 @@
 -- An open stream is one of the table: its goodbyes are written, and then it is closed.
 use mathlib.Core.Path.{sym, ◌∙◌}
-use borrow.Author.Tests.{not-false}
-use borrow.Author.Rules.{rules}
 use Rattle.ledger.specs.Choice.{◌⇒◌∣◌}
 use Rattle.paper.specs.Base.{slot, closed, with_slot}
 use Rattle.paper.specs.Openings.{goodbyes, closes}

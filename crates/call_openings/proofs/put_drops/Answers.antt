@@ -1,5 +1,5 @@
 -- After k turns the goodbyes of the k oldest stand at the room's start.
-use Prim.Native.Nat.{ℕ, ◌*◌, ◌-◌, ◌≤◌}
+use Prim.Native.Nat.{ℕ, ◌*◌}
 use native.Mathlib.Omega.{arith}
 use mathlib.Core.Path.{◌≡◌, refl, ap, ◌∙◌}
 use mathlib.Core.List.{List, [], map}
@@ -15,7 +15,6 @@ use Rattle.paper.specs.declared.LineOrder.TheVariants as line_order
 use Rattle.paper.proofs.RecordsOut.{goodbyes-long}
 use Rattle.table_image.specs.Layout.{table_of}
 use Rattle.call_openings.proofs.Laws.{goodbyes-next}
-use Rattle.paper.specs.Saps.{most_open}
 use Rattle.octets.proofs.Writing.{wrote-most, wrote_of, wrote-over, over-wrote}
 use Rattle.call_openings.proofs.put_drops.Goals as goal
 

@@ -4,7 +4,6 @@ use mathlib.Core.Path.{◌≡◌, refl, sym, ◌∙◌}
 use mathlib.Core.Bool.{true, false}
 use lib.Dec.{eqb}
 use borrow.Author.Tests.{eq-eqb, ne_eqb}
-use borrow.Author.Rules.{rules}
 use Rattle.ledger.specs.Choice.{◌⇒◌∣◌}
 use Rattle.ledger.specs.Tally.{has}
 use Rattle.paper.specs.Base.{number_of, calling_states}

@@ -1,5 +1,4 @@
 -- An opening begins where its page is cleared first and then counted.
-use borrow.Author.Rules.{rules}
 use Rattle.fates_register.proofs.begin.Goals as goal
 
 pub returns : goal.returns

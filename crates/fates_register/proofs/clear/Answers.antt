@@ -1,14 +1,10 @@
 -- A cell that is done is done as in the whole run, so the cells left lead to the same register.
 use native.Mathlib.Omega.{arith}
 use mathlib.Core.Path.{◌≡◌, refl, sym, ap, ◌∙◌}
-use mathlib.Core.List.{List}
-use Prim.Native.Nat.{ℕ, ◌+◌}
-use lib.ListN.{length, length-set}
-use borrow.Author.Rules.{rules}
+use Prim.Native.Nat.{ℕ}
+use lib.ListN.{length-set}
 use Rattle.fates_register.specs.Register.{cleared}
-use Rattle.fates_register.specs.Register.{newest_size}
 use Rattle.fates_register.proofs.Laws.{clear_on}
-use Rattle.fates_register.proofs.clear.Invariants.{ToDo}
 use Rattle.fates_register.proofs.clear.Goals as goal
 
 pub loop-left-init : goal.loop-left-init

@@ -1,12 +1,9 @@
 -- A cell that is done is done as in the whole run, so the cells left lead to the same register.
-use native.Mathlib.Omega.{arith}
-use mathlib.Core.Path.{◌≡◌, refl, sym, ap, ◌∙◌}
+use mathlib.Core.Path.{◌≡◌}
 use mathlib.Core.List.{List}
 use Prim.Native.Nat.{ℕ, ◌+◌}
-use lib.ListN.{length, length-set}
-use borrow.Author.Rules.{rules}
+use lib.ListN.{length}
 use Rattle.fates_register.specs.Register.{close_up}
-use Rattle.fates_register.proofs.Laws.{close_on}
 use Rattle.fates_register.proofs.close_up.Given as goal
 
 pub record ToDo (at k : ℕ) (register₀ register : List ℕ) (c left : ℕ) : Type 0 where

@@ -1,5 +1,4 @@
 -- Two counts go up, one behind the other, on two pages.
-use borrow.Author.Rules.{rules}
 use Rattle.fates_register.proofs.count.Goals as goal
 
 pub returns : goal.returns

@@ -1,6 +1,5 @@
 -- Each kind of line has its own change in the definition too, and both leave a register as it is for a stream without a page.
 use borrow.Author.Tests.{lt-ltb, le-ltb}
-use borrow.Author.Rules.{rules}
 use Rattle.ledger.specs.Choice.{◌⇒◌∣◌}
 use Rattle.fates_register.specs.Register.{entered}
 use Rattle.fates_register.proofs.enter.Goals as goal

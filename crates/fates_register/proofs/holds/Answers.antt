@@ -1,6 +1,5 @@
 -- The number is compared only where the place is taken, and else both tests fail together.
 use borrow.Author.Tests.{lt-ltb, le-ltb}
-use borrow.Author.Rules.{rules}
 use Rattle.fates_register.proofs.holds.Goals as goal
 
 pub returns-then-register-c-gt0 : goal.returns-then-register-c-gt0

@@ -1,5 +1,4 @@
 -- One that ends is counted under its end, and then gives up its place.
-use borrow.Author.Rules.{rules}
 use Rattle.fates_register.proofs.leave.Goals as goal
 
 pub returns : goal.returns

@@ -1,6 +1,5 @@
 -- The one test of the code is that of the definition.
 use borrow.Author.Tests.{eq-eqb, ne_eqb}
-use borrow.Author.Rules.{rules}
 use Rattle.ledger.specs.Choice.{◌⇒◌∣◌}
 use Rattle.fates_register.specs.Register.{one_more}
 use Rattle.fates_register.proofs.one_more.Goals as goal

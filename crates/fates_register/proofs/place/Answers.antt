@@ -2,7 +2,6 @@
 use native.Mathlib.Omega.{arith}
 use lib.ListN.{length-set}
 use borrow.Author.Tests.{lt-ltb, le-ltb}
-use borrow.Author.Rules.{rules}
 use Rattle.ledger.specs.Choice.{◌⇒◌∣◌}
 use Rattle.fates_register.specs.Register.{placed}
 use Rattle.fates_register.proofs.place.Goals as goal

@@ -1,16 +1,11 @@
 -- A place that is passed gives no answer, so the places left to look at give that of all.
 use native.Mathlib.Omega.{arith}
 use mathlib.Core.Path.{◌≡◌, refl, sym, ap, ◌∙◌}
-use Prim.Native.Nat.{ℕ, ◌+◌, ◌*◌, ◌≤◌}
+use Prim.Native.Nat.{ℕ}
 use mathlib.Core.Bool.{true, false}
-use mathlib.Core.List.{List}
-use borrow.Author.Rules.{rules}
 use Rattle.ledger.specs.Choice.{◌⇒◌∣◌}
-use Rattle.paper.specs.Saps.{most_open}
-use Rattle.fates_register.specs.Register.{find_from, place_of}
-use Rattle.fates_register.specs.Register.{places_end}
+use Rattle.fates_register.specs.Register.{find_from}
 use Rattle.fates_register.proofs.Laws.{find_on}
-use Rattle.fates_register.proofs.place_of.Invariants.{ToLook}
 use Rattle.fates_register.proofs.place_of.Goals as goal
 
 pub loop-left-init : goal.loop-left-init

@@ -1,15 +1,10 @@
 -- A place that is passed gives no answer, so the places left to look at give that of all.
-use native.Mathlib.Omega.{arith}
-use mathlib.Core.Path.{◌≡◌, refl, sym, ap, ◌∙◌}
+use mathlib.Core.Path.{◌≡◌}
 use Prim.Native.Nat.{ℕ, ◌+◌, ◌*◌, ◌≤◌}
-use mathlib.Core.Bool.{true, false}
 use mathlib.Core.List.{List}
-use borrow.Author.Rules.{rules}
-use Rattle.ledger.specs.Choice.{◌⇒◌∣◌}
 use Rattle.paper.specs.Saps.{most_open}
 use Rattle.fates_register.specs.Register.{find_from, place_of}
 use Rattle.fates_register.specs.Register.{places_end}
-use Rattle.fates_register.proofs.Laws.{find_on}
 use Rattle.fates_register.proofs.place_of.Given as goal
 
 pub record ToLook (i n : ℕ) (register : List ℕ) (c left : ℕ) : Type 0 where

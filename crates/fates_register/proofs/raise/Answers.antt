@@ -1,6 +1,5 @@
 -- The cell that is read is the cell that is written.
 use Rattle.fates_register.specs.Register.{raised}
-use borrow.Author.Rules.{rules}
 use Rattle.fates_register.proofs.raise.Goals as goal
 
 pub returns : goal.returns

@@ -1,6 +1,5 @@
 -- The test whether the number has a place is that of the definition, and what closes up is what stands behind that place.
 use borrow.Author.Tests.{lt-ltb, le-ltb}
-use borrow.Author.Rules.{rules}
 use Rattle.ledger.specs.Choice.{◌⇒◌∣◌}
 use Rattle.fates_register.specs.Register.{removed}
 use Rattle.fates_register.proofs.remove.Goals as goal

@@ -1,5 +1,4 @@
 -- One that rings in is counted first, and then placed by that count.
-use borrow.Author.Rules.{rules}
 use Rattle.fates_register.proofs.ring.Goals as goal
 
 pub returns : goal.returns

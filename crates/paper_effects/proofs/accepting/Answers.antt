@@ -1,5 +1,4 @@
 -- Each part of the effect of an accept is made by the function that has its name in the paper.
-use borrow.Author.Rules.{rules}
 use Rattle.paper_effects.proofs.accepting.Goals as goal
 
 pub returns : goal.returns

@@ -5,7 +5,6 @@ use Rattle.paper.specs.ErrorCodes.{complaint_of, error_of, reply_by}
 use Rattle.paper.specs.declared.Reply.TheVariants.{ErrorAck}
 use Rattle.paper.specs.declared.Rule.{Rule}
 use Rattle.paper.specs.declared.Rule.TheVariants as rule
-use borrow.Author.Rules.{rules}
 use Rattle.paper_effects.proofs.complaint.Goals as goal
 
 -- the rules that are not of a datagram

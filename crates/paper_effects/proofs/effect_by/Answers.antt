@@ -1,6 +1,5 @@
 -- A verdict that a rule fails has the effect of its error; one that serves, that of its service.
 use Rattle.paper.specs.Decide.{effect_by}
-use borrow.Author.Rules.{rules}
 use Rattle.paper_effects.proofs.effect_by.Goals as goal
 
 pub returns-in-Fails : goal.returns-in-Fails

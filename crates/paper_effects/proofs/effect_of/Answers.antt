@@ -1,6 +1,5 @@
 -- Each service has its own effect, made of the parts that the paper names.
 use Rattle.paper.specs.Effects.{effect_of}
-use borrow.Author.Rules.{rules}
 use Rattle.paper_effects.proofs.effect_of.Goals as goal
 
 pub returns-in-Inform : goal.returns-in-Inform

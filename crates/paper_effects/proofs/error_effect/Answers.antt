@@ -1,5 +1,4 @@
 -- The message up is the rule's, and the effect has nothing else in it.
-use borrow.Author.Rules.{rules}
 use Rattle.paper_effects.proofs.error_effect.Goals as goal
 
 pub returns : goal.returns

@@ -1,6 +1,5 @@
 -- Each event has its own effect, made of the parts that the paper names.
 use Rattle.paper.specs.Effects.{event_effect}
-use borrow.Author.Rules.{rules}
 use Rattle.paper_effects.proofs.event_effect.Goals as goal
 
 pub returns-in-Arrives : goal.returns-in-Arrives

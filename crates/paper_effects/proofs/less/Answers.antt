@@ -1,5 +1,4 @@
 -- The stream settles in the row's next state; the state for the last number goes along.
-use borrow.Author.Rules.{rules}
 use Rattle.paper_effects.proofs.less.Goals as goal
 
 pub returns : goal.returns

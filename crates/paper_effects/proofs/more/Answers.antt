@@ -1,5 +1,4 @@
 -- The stream settles in the row's next state, with the number that it takes.
-use borrow.Author.Rules.{rules}
 use Rattle.paper_effects.proofs.more.Goals as goal
 
 pub returns : goal.returns

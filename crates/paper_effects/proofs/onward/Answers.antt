@@ -1,5 +1,4 @@
 -- The stream settles in the row's next state.
-use borrow.Author.Rules.{rules}
 use Rattle.paper_effects.proofs.onward.Goals as goal
 
 pub returns : goal.returns

@@ -1,6 +1,5 @@
 -- A row that leads to its own state changes nothing; any other settles the stream in its next.
 use borrow.Author.Tests.{eq-eqb, ne_eqb}
-use borrow.Author.Rules.{rules}
 use Rattle.paper_effects.proofs.unchanged.Goals as goal
 
 pub returns-then-x : goal.returns-then-x

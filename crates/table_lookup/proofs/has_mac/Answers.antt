@@ -1,7 +1,6 @@
 -- The bytes compared are those of the MAC found.
 use mathlib.Core.Path.{ap, ◌∙◌}
 use Rattle.octets.specs.Runs.{same_bytes}
-use borrow.Author.Rules.{rules}
 use Rattle.table_lookup.proofs.has_mac.Goals as goal
 
 pub returns : goal.returns

@@ -1,5 +1,4 @@
 -- Somebody listens exactly if the listener is one of the table's streams.
-use borrow.Author.Rules.{rules}
 use Rattle.paper.specs.Saps.{is_listened_for}
 use Rattle.table_lookup.proofs.is_listened_for.Goals as goal
 

@@ -1,6 +1,5 @@
 -- The first four bytes of a place are its number.
 use native.Mathlib.Nat.{add-sub_cancel_left}
-use borrow.Author.Rules.{rules}
 use Rattle.table_image.specs.Layout.{ppa_at, ppa_from}
 use Rattle.table_lookup.proofs.Laws.{ppa-place}
 use Rattle.table_lookup.proofs.is_ppa.Goals as goal

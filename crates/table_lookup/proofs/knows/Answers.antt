@@ -2,7 +2,6 @@
 use Prim.Native.Nat.{ℕ}
 use mathlib.Core.Path.{sym}
 use lib.ListN.{length-map}
-use borrow.Author.Rules.{rules}
 use Rattle.ledger.proofs.Searches.{has_first, first-map}
 use Rattle.paper.specs.Base.{ppa_numbers, knows}
 use Rattle.paper.specs.declared.Ppa.{Ppa}

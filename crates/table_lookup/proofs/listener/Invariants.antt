@@ -1,11 +1,7 @@
 -- No stream before i listens.
 use Prim.Native.Nat.{◌≤◌, ◌-◌}
-use native.Mathlib.Omega.{arith}
-use mathlib.Core.Path.{sym, ◌∙◌}
-use borrow.Author.Rules.{rules}
-use Rattle.ledger.proofs.Searches.{first_hit, first-miss, first-end}
-use Rattle.paper.specs.Base.{Slot, closed, stream, stream_total}
-use Rattle.paper.specs.Saps.{listens, listener}
+use Rattle.paper.specs.Base.{stream_total}
+use Rattle.paper.specs.Saps.{listener}
 use Rattle.table_image.specs.Layout.{table_of}
 use Rattle.table_lookup.proofs.listener.Given as goal
 

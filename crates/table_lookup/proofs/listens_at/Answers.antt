@@ -1,6 +1,5 @@
 -- A stream listens where three tests pass, so any of them may be asked first: here that of the SAP.
 use native.Mathlib.Omega.{arith}
-use borrow.Author.Rules.{rules}
 use borrow.Author.Tests.{lt-ltb, eq-eqb, ne_eqb}
 use Rattle.table_lookup.proofs.Laws.{sap-first}
 use Rattle.table_lookup.proofs.listens_at.Goals as goal

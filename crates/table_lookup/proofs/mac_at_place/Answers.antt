@@ -1,7 +1,6 @@
 -- The last six bytes of a place are its MAC, and they fill the array.
 use native.Mathlib.Nat.{add-sub_cancel_left}
 use native.Mathlib.Omega.{arith}
-use borrow.Author.Rules.{rules}
 use Rattle.octets.specs.Runs.{part}
 use Rattle.table_image.specs.Layout.{ppa_base, ppa_at, ppa_from, place_size, ppa_part, mac_offset}
 use Rattle.table_lookup.proofs.Laws.{ppa-place}

@@ -4,7 +4,6 @@ use native.Mathlib.Omega.{arith}
 use mathlib.Core.Path.{sym, ap}
 use lib.Dec.{eqb}
 use lib.ListN.{length, get_or-eq_default}
-use borrow.Author.Rules.{rules}
 use Rattle.ledger.specs.Tally.{first_of}
 use Rattle.paper.specs.Base.{no_ppa, mac_of}
 use Rattle.paper.specs.declared.Ppa.{Ppa}

@@ -1,6 +1,5 @@
 -- The two tests of the definition, in their order.
 use native.Mathlib.Numerals.{add-one}
-use borrow.Author.Rules.{rules}
 use borrow.Author.Tests.{eq-eqb, ne_eqb}
 use Rattle.table_lookup.proofs.means_itself.Goals as goal
 

@@ -1,10 +1,7 @@
 -- No PPA before place i has the number.
-use Prim.Native.Nat.{◌≤◌, ◌-◌}
 use native.Mathlib.Omega.{arith}
 use mathlib.Core.Path.{sym, ◌∙◌}
 use lib.Dec.{eqb}
-use borrow.Author.Rules.{rules}
-use Rattle.ledger.specs.Tally.{first_of}
 use Rattle.ledger.proofs.Searches.{first_hit, first-miss, first-end}
 use Rattle.paper.specs.Base.{no_ppa}
 use Rattle.paper.specs.declared.Ppa.{Ppa}

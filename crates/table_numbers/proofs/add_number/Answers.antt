@@ -1,5 +1,5 @@
 -- The slot is written with the stream's bytes and those with one number more.
-use Rattle.std.proofs.Common.{[], ◌∷◌, ◌++◌, arith, length-append, rules}
+use Rattle.std.proofs.Common.{[], ◌∷◌, ◌++◌, arith, length-append}
 use Rattle.paper.specs.Base.{waiting}
 use Rattle.table_image.specs.Layout.{table_of}
 use Rattle.table_numbers.proofs.Laws.{numbers_stored}

@@ -1,7 +1,7 @@
 -- After k turns the first k numbers of the stream stand over dst from the place on.
 use mathlib.Core.Path.{◌∙◌}
-use Rattle.std.proofs.Common.{◌≡◌, ◌-◌, ◌<◌, ◌≤◌, length, get_or, ap, ◌∙◌, add-one, arith, length-set, rules}
-use lib.Seq.{paste, paste-zero, paste-suc, take-length}
+use Rattle.std.proofs.Common.{◌≡◌, ◌<◌, length, get_or, ap, ◌∙◌, add-one, arith, length-set, rules}
+use lib.Seq.{paste-zero, paste-suc, take-length}
 use Rattle.paper.specs.declared.Correlation.{Correlation}
 use Rattle.paper.specs.Base.{waiting}
 use Rattle.table_image.specs.Layout.{table_of}

@@ -1,5 +1,5 @@
 -- The two tests of the definition, in their order.
-use Rattle.std.proofs.Common.{rules, le-ltb, lt-ltb}
+use Rattle.std.proofs.Common.{le-ltb, lt-ltb}
 use Rattle.table_numbers.proofs.is_free.Goals as goal
 
 pub returns-then-n-gt0 : goal.returns-then-n-gt0

@@ -1,6 +1,6 @@
 -- A number is open exactly if its place is before the count.
 use mathlib.Core.Path.{sym}
-use Rattle.std.proofs.Common.{sym, rules}
+use Rattle.std.proofs.Common.{sym}
 use Rattle.ledger.proofs.Searches.{has_first}
 use Rattle.paper.specs.Base.{waiting}
 use Rattle.table_image.specs.Layout.{table_of}

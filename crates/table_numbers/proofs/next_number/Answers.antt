@@ -1,5 +1,5 @@
 -- What is left to try, from the number that is tried, gives the answer.
-use Rattle.std.proofs.Common.{◌≡◌, ℕ, ◌-◌, ◌≤◌, sym, ap, ◌∙◌, arith, rules}
+use Rattle.std.proofs.Common.{◌≡◌, ℕ, ◌-◌, sym, ap, ◌∙◌, arith, rules}
 use Rattle.ledger.specs.Tally.{next_from}
 use Rattle.ledger.proofs.Found.{next_here, next-on}
 use Rattle.paper.specs.Correlations.{occurrences, next_number, most_passed}

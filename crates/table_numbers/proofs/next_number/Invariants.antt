@@ -1,7 +1,6 @@
 -- What is left to try, from the number that is tried, gives the answer.
-use Rattle.std.proofs.Common.{◌≡◌, ℕ, ◌-◌, ◌≤◌, sym, ap, ◌∙◌, arith, rules}
+use Rattle.std.proofs.Common.{◌≡◌, ◌≤◌}
 use Rattle.ledger.specs.Tally.{next_from}
-use Rattle.ledger.proofs.Found.{next_here, next-on}
 use Rattle.paper.specs.Correlations.{occurrences, next_number, most_passed}
 use Rattle.table_image.specs.Layout.{table_of}
 use Rattle.table_numbers.proofs.next_number.Given as goal

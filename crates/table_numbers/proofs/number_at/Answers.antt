@@ -1,6 +1,6 @@
 -- A stream has at most 8 open numbers, so the place is one of its slot.
 use mathlib.Core.Path.{◌∙◌}
-use Rattle.std.proofs.Common.{ℕ, ap, ◌∙◌, arith, rules}
+use Rattle.std.proofs.Common.{ℕ, ap, ◌∙◌, arith}
 use Rattle.table_numbers.proofs.Laws.{number_at, placed-few}
 use Rattle.table_numbers.proofs.number_at.Goals as goal
 

@@ -1,7 +1,6 @@
 -- No open number before place k is the one sought.
 use mathlib.Core.Path.{◌∙◌, sym}
-use Rattle.std.proofs.Common.{◌-◌, ◌≤◌, eqb, sym, ap, ◌∙◌, arith, rules, eq-eqb, ne_eqb}
-use Rattle.ledger.specs.Tally.{first_of}
+use Rattle.std.proofs.Common.{eqb, sym, ap, ◌∙◌, arith, eq-eqb, ne_eqb}
 use Rattle.ledger.proofs.Searches.{first_hit, first-miss, first-end}
 use Rattle.paper.specs.declared.Correlation.{Correlation}
 use Rattle.paper.specs.Base.{waiting}

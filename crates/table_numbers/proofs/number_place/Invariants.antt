@@ -1,8 +1,6 @@
 -- No open number before place k is the one sought.
-use Rattle.std.proofs.Common.{◌-◌, ◌≤◌, eqb, sym, ap, ◌∙◌, arith, rules, eq-eqb, ne_eqb}
+use Rattle.std.proofs.Common.{◌-◌, ◌≤◌, eqb}
 use Rattle.ledger.specs.Tally.{first_of}
-use Rattle.ledger.proofs.Searches.{first_hit, first-miss, first-end}
-use Rattle.paper.specs.declared.Correlation.{Correlation}
 use Rattle.paper.specs.Base.{waiting}
 use Rattle.table_image.specs.Layout.{table_of}
 use Rattle.table_numbers.proofs.number_place.Given as goal

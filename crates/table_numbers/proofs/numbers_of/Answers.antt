@@ -1,5 +1,5 @@
 -- The bytes of the slot from its count on go over all of the array.
-use Rattle.std.proofs.Common.{◌≡◌, ◌+◌, length, replicate, arith, rules}
+use Rattle.std.proofs.Common.{◌≡◌, ◌+◌, length, replicate, arith}
 use native.Mathlib.Nat.{add-sub_cancel_left}
 use Rattle.paper.specs.Base.{waiting}
 use Rattle.table_image.specs.Layout.{table_of, waiting_bytes, numbers_size}

@@ -1,8 +1,7 @@
 -- After i turns the first i streams are counted.
-use Rattle.std.proofs.Common.{◌≡◌, ℕ, ◌+◌, ◌-◌, ◌*◌, ◌≤◌, get_or, drop, ap, add-one, arith, drop_of_length-le, drop-cons, rules}
+use Rattle.std.proofs.Common.{◌≡◌, ◌+◌, ◌-◌, ◌*◌, ◌≤◌, drop}
 use Rattle.ledger.specs.Tally.{occ, sum_of}
-use Rattle.ledger.proofs.Tallies.{occ-length}
-use Rattle.paper.specs.Base.{Slot, waiting, closed, stream_total}
+use Rattle.paper.specs.Base.{Slot, stream_total}
 use Rattle.paper.specs.Correlations.{occurrences}
 use Rattle.table_image.specs.Layout.{table_of}
 use Rattle.paper.specs.Saps.{most_open}

@@ -1,5 +1,5 @@
 -- After k turns the first k places are counted.
-use Rattle.std.proofs.Common.{◌≡◌, ◌+◌, ◌-◌, ◌≤◌, eqb, get_or, drop, sym, ap, ◌∙◌, ⊎_elim, add-one, arith, drop_of_length-le, drop-cons, rules, eq-eqb, ne_eqb}
+use Rattle.std.proofs.Common.{◌≡◌, ◌+◌, eqb, get_or, drop, sym, ap, ◌∙◌, add-one, arith, drop_of_length-le, drop-cons, rules, eq-eqb, ne_eqb}
 use Rattle.ledger.specs.Tally.{one_if, occ}
 use Rattle.ledger.proofs.Tallies.{occ-length}
 use Rattle.paper.specs.declared.Correlation.{Correlation}

@@ -1,8 +1,6 @@
 -- After k turns the first k places are counted.
-use Rattle.std.proofs.Common.{◌≡◌, ◌+◌, ◌-◌, ◌≤◌, eqb, get_or, drop, sym, ap, ◌∙◌, ⊎_elim, add-one, arith, drop_of_length-le, drop-cons, rules, eq-eqb, ne_eqb}
-use Rattle.ledger.specs.Tally.{one_if, occ}
-use Rattle.ledger.proofs.Tallies.{occ-length}
-use Rattle.paper.specs.declared.Correlation.{Correlation}
+use Rattle.std.proofs.Common.{◌≡◌, ◌+◌, ◌-◌, ◌≤◌, drop}
+use Rattle.ledger.specs.Tally.{occ}
 use Rattle.paper.specs.Base.{waiting}
 use Rattle.table_image.specs.Layout.{table_of}
 use Rattle.table_numbers.proofs.occurs_on.Given as goal

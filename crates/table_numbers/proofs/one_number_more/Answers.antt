@@ -1,5 +1,4 @@
 -- The number goes over the first zeros.
-use Rattle.std.proofs.Common.{rules}
 use Rattle.paper.specs.Base.{waiting}
 use Rattle.table_image.specs.Layout.{table_of}
 use Rattle.table_numbers.proofs.Laws.{more_bytes}

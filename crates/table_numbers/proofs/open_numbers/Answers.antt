@@ -1,13 +1,12 @@
 -- After i turns the numbers of the first i streams stand at the start of dst.
 use mathlib.Core.Path.{◌∙◌, sym}
-use Rattle.std.proofs.Common.{◌≡◌, ℕ, ◌+◌, ◌-◌, ◌*◌, ◌≤◌, List, ◌++◌, length, take, drop, sym, refl, ap, ◌∙◌, append-nil, arith, drop_of_length-le, rules}
-use Rattle.paper.specs.Base.{Slot, waiting, closed, stream_total}
+use Rattle.std.proofs.Common.{ℕ, ◌+◌, ◌≤◌, List, ◌++◌, length, take, drop, sym, refl, ap, ◌∙◌, append-nil, arith, drop_of_length-le, rules}
+use Rattle.paper.specs.Base.{Slot, waiting, closed}
 use Rattle.table_image.specs.Layout.{table_of}
 use Rattle.table_numbers.proofs.Laws.{copied_on}
 use Rattle.octets.proofs.Runs.{paste-length}
 use Rattle.ledger.specs.Lists.{joined}
 use Rattle.paper.specs.Saps.{most_open}
-use Rattle.paper.specs.Correlations.{most_numbers}
 use Rattle.table_numbers.proofs.open_numbers.Goals as goal
 
 pub loop-i-init : goal.loop-i-init

@@ -1,9 +1,7 @@
 -- After i turns the numbers of the first i streams stand at the start of dst.
-use Rattle.std.proofs.Common.{◌≡◌, ℕ, ◌+◌, ◌-◌, ◌*◌, ◌≤◌, List, ◌++◌, length, take, drop, sym, refl, ap, ◌∙◌, append-nil, arith, drop_of_length-le, rules}
-use Rattle.paper.specs.Base.{Slot, waiting, closed, stream_total}
+use Rattle.std.proofs.Common.{◌≡◌, ◌-◌, ◌*◌, ◌≤◌, ◌++◌, length, take, drop}
+use Rattle.paper.specs.Base.{Slot, stream_total}
 use Rattle.table_image.specs.Layout.{table_of}
-use Rattle.table_numbers.proofs.Laws.{copied_on}
-use Rattle.octets.proofs.Runs.{paste-length}
 use Rattle.ledger.specs.Lists.{joined}
 use Rattle.paper.specs.Saps.{most_open}
 use Rattle.paper.specs.Correlations.{most_numbers}

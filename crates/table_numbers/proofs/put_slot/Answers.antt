@@ -1,6 +1,6 @@
 -- Two runs, one behind the other, are one.
 use mathlib.Core.Path.{sym}
-use Rattle.std.proofs.Common.{◌≡◌, ◌+◌, length, sym, arith, rules}
+use Rattle.std.proofs.Common.{◌≡◌, ◌+◌, length, sym, arith}
 use Rattle.table_image.specs.Layout.{slot_base, stream_bytes, count_offset}
 use Rattle.table_image.proofs.Shapes.{stream-length}
 use Rattle.octets.proofs.Runs.{paste_join}

@@ -1,6 +1,6 @@
 -- Where the number is open one fewer stays, and else all do.
 use mathlib.Core.Path.{◌∙◌, sym}
-use Rattle.std.proofs.Common.{◌≡◌, ℕ, suc, true, length, sym, ap, ◌∙◌, arith, rules, ltb-true}
+use Rattle.std.proofs.Common.{◌≡◌, ℕ, suc, true, length, sym, ap, ◌∙◌, arith, ltb-true}
 use Rattle.ledger.specs.Tally.{occ, without, has}
 use Rattle.ledger.proofs.Tallies.{length_without}
 use Rattle.ledger.proofs.Searches.{without_none}

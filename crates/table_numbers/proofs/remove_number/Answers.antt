@@ -1,6 +1,6 @@
 -- Where the number is open the slot is written without it; where it is not, without it is as it was.
 use mathlib.Core.Path.{◌∙◌}
-use Rattle.std.proofs.Common.{◌<◌, ◌≤◌, eqb, length, ◌∙◌, arith, rules, le-ltb}
+use Rattle.std.proofs.Common.{◌<◌, ◌≤◌, eqb, length, ◌∙◌, arith, le-ltb}
 use Rattle.ledger.specs.Tally.{without, first_of}
 use Rattle.ledger.proofs.Tallies.{length-without_le}
 use Rattle.ledger.proofs.Searches.{has_first, without_none, without-first}

@@ -1,7 +1,6 @@
 -- The numbers that are copied are those that are open.
 use native.Mathlib.Nat.{sub-zero}
 use mathlib.Core.Path.{ap}
-use borrow.Author.Rules.{rules}
 use Rattle.table_soundness.specs.Groups.{are_single}
 use Rattle.table_soundness.proofs.are_numbers_single.Goals as goal
 

@@ -3,7 +3,6 @@ use Prim.Native.Nat.{ℕ, ◌+◌, ◌-◌, ◌*◌}
 use mathlib.Core.Path.{◌≡◌, ap₂, ◌∙◌}
 use lib.ListN.{get_or}
 use native.Mathlib.Omega.{arith}
-use borrow.Author.Rules.{rules}
 use borrow.Author.Tests.{lt-leb, le-leb}
 use Rattle.octets.specs.Runs.{part, all_zero}
 use Rattle.table_image.specs.Layout.{ppa_base, ppa_count_offset, places_offset, place_size, places_size, slots_offset}

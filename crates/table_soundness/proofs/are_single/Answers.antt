@@ -1,10 +1,7 @@
 -- After k turns the first k numbers have passed.
-use Prim.Native.Nat.{◌-◌}
 use mathlib.Core.Path.{◌∙◌, sym}
-use lib.ListN.{length}
 use borrow.Author.Rules.{rules}
-use Rattle.table_soundness.proofs.Singles.{single_on_lem, PassedTo, not_single, one_more_lem, all_single}
-use Rattle.ledger.proofs.Tallies.{test_held, test_failed}
+use Rattle.table_soundness.proofs.Singles.{single_on_lem, not_single, one_more_lem, all_single}
 use Rattle.table_soundness.proofs.are_single.Goals as goal
 
 pub loop-k-init : goal.loop-k-init

@@ -4,12 +4,10 @@ use mathlib.Core.Path.{◌≡◌, refl, sym, ap, ◌∙◌}
 use mathlib.Core.List.{[]}
 use lib.ListN.{get_or}
 use native.Mathlib.Omega.{arith}
-use borrow.Author.Rules.{rules}
 use Rattle.octets.specs.Runs.{part}
 use Rattle.table_image.specs.Layout.{slot_base, tidy_slot, slot_parts, slot_size}
 use Rattle.table_soundness.proofs.Slots.{slot-of_parts}
-use Rattle.ledger.proofs.Tallies.{test_held, test_failed}
-use Rattle.ledger.proofs.Walks.{all_passed, all_fails, all_on, all_ends}
+use Rattle.ledger.proofs.Walks.{all_fails, all_on, all_ends}
 use Rattle.paper.specs.Base.{stream_total}
 use Rattle.table_soundness.proofs.are_slots_tidy.Goals as goal
 

@@ -1,5 +1,4 @@
 -- The two tests of the definition, by the state.
-use borrow.Author.Rules.{rules}
 use borrow.Author.Tests.{eq-eqb, ne_eqb}
 use Rattle.paper.specs.Base.{knows}
 use Rattle.table_soundness.specs.Groups.{is_attached_right}

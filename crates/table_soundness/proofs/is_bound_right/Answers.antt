@@ -1,7 +1,6 @@
 -- From state 6 on the binding is tested, and above 6 its mode; below, that there is none.
 use mathlib.Core.Path.{sym, ◌∙◌}
-use borrow.Author.Rules.{rules}
-use Rattle.ledger.proofs.Tallies.{both_true, test_held, test_failed}
+use Rattle.ledger.proofs.Tallies.{both_true}
 use Rattle.paper.proofs.StateNumbers.{not-bound}
 use Rattle.paper.specs.Sound.{every, unbound}
 use Rattle.table_soundness.specs.Groups.{is_bound_right}

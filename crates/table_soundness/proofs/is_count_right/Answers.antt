@@ -1,6 +1,5 @@
 -- In state 9 the count is tested from both sides, and elsewhere it is 0.
 use native.Mathlib.Omega.{arith}
-use borrow.Author.Rules.{rules}
 use borrow.Author.Tests.{lt-ltb, le-ltb, eq-eqb, ne_eqb}
 use Rattle.table_soundness.proofs.Slots.{none_waits}
 use Rattle.table_soundness.specs.Groups.{is_count_right}

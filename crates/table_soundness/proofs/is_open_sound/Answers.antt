@@ -1,10 +1,8 @@
 -- The tests of an open stream, in their groups and in their order.
 use mathlib.Core.Path.{◌∙◌, sym, ◌≡◌}
-use borrow.Author.Rules.{rules}
-use Rattle.paper.specs.Base.{slot, stream, ppa_numbers}
+use Rattle.paper.specs.Base.{slot, ppa_numbers}
 use Rattle.table_image.specs.Layout.{table_of}
 use Rattle.table_soundness.proofs.Slots.{grouped}
-use Rattle.ledger.proofs.Tallies.{test_held, test_failed}
 use Rattle.table_soundness.proofs.is_open_sound.Goals as goal
 
 pub returns-then-not-is_attached_right : goal.returns-then-not-is_attached_right

@@ -1,6 +1,5 @@
 -- The two tests in their order.
 use native.Mathlib.Omega.{arith}
-use borrow.Author.Rules.{rules}
 use borrow.Author.Tests.{lt-ltb, le-ltb}
 use Rattle.table_soundness.specs.Groups.{is_single_in}
 use Rattle.table_soundness.proofs.is_single_in.Goals as goal

@@ -2,7 +2,6 @@
 use Prim.Native.Nat.{ℕ, ◌+◌, ◌-◌}
 use mathlib.Core.Path.{◌≡◌, sym, ap, ◌∙◌}
 use native.Mathlib.Omega.{arith}
-use borrow.Author.Rules.{rules}
 use Rattle.octets.specs.Runs.{part, all_zero}
 use Rattle.paper.specs.Base.{slot}
 use Rattle.paper.specs.Sound.{holds_nothing, sound_slot}

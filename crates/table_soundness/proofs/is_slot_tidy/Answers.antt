@@ -3,13 +3,10 @@ use Prim.Native.Nat.{ℕ, ◌+◌, ◌-◌, ◌*◌}
 use mathlib.Core.Path.{sym, ◌≡◌, ap₂, ◌∙◌}
 use lib.ListN.{length, get_or}
 use native.Mathlib.Omega.{arith}
-use borrow.Author.Rules.{rules}
 use borrow.Author.Tests.{lt-leb, le-leb}
 use Rattle.octets.specs.Runs.{part, all_zero}
 use Rattle.table_image.specs.Layout.{tidy_slot, count_offset, numbers_offset, numbers_size, number_base}
-use Rattle.ledger.proofs.Tallies.{test_held, test_failed}
 use Rattle.paper.specs.Saps.{most_open}
-use Rattle.paper.specs.Base.{slot}
 use Rattle.table_soundness.proofs.is_slot_tidy.Goals as goal
 
 pub returns-then-not-is_state : goal.returns-then-not-is_state

@@ -1,9 +1,7 @@
 -- The clauses in their groups, in the order in which they are tested.
 use mathlib.Core.Path.{◌∙◌, sym}
-use borrow.Author.Rules.{rules}
 use Rattle.table_image.specs.Layout.{table_of}
 use Rattle.table_soundness.proofs.Slots.{sound_groups}
-use Rattle.ledger.proofs.Tallies.{test_held, test_failed}
 use Rattle.table_soundness.proofs.is_sound.Goals as goal
 
 pub returns-then-not-ppas_differ : goal.returns-then-not-ppas_differ

@@ -1,5 +1,4 @@
 -- The state that a byte tells has that number exactly if the byte is the number of a state.
-use borrow.Author.Rules.{rules}
 use Rattle.table_image.specs.Layout.{is_state}
 use Rattle.paper.proofs.StateNumbers.{state-told}
 use Rattle.table_soundness.proofs.is_state.Goals as goal

@@ -1,8 +1,6 @@
 -- The two groups of tests, in their order.
 use mathlib.Core.Path.{◌∙◌, sym}
-use borrow.Author.Rules.{rules}
 use Rattle.table_soundness.specs.Groups.{is_stream_sound}
-use Rattle.ledger.proofs.Tallies.{test_held, test_failed}
 use Rattle.table_soundness.proofs.is_stream_sound.Goals as goal
 
 pub returns-then-not-is_slot_sound : goal.returns-then-not-is_slot_sound

@@ -3,10 +3,8 @@ use mathlib.Core.Path.{◌∙◌, sym, ◌≡◌}
 use mathlib.Core.Bool.{true}
 use lib.ListN.{length, get_or}
 use native.Mathlib.Omega.{arith}
-use borrow.Author.Rules.{rules}
 use borrow.Author.Tests.{lt-leb, le-leb, eq-eqb, ne_eqb}
 use Rattle.table_image.specs.Layout.{tidy, memory_offset, image_size}
-use Rattle.ledger.proofs.Tallies.{test_held, test_failed}
 use Rattle.octets.specs.Runs.{are_bytes}
 use Rattle.octets.proofs.Runs.{to_are_bytes}
 use Rattle.table_soundness.proofs.is_tidy.Goals as goal

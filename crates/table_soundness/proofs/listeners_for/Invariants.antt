@@ -1,12 +1,8 @@
 -- After i turns the first i streams are counted.
-use Prim.Native.Nat.{ℕ, ◌-◌, ◌≤◌, ◌<◌}
-use mathlib.Core.Path.{ap, ◌∙◌}
-use lib.ListN.{length}
-use native.Mathlib.Omega.{arith}
-use borrow.Author.Rules.{rules}
+use Prim.Native.Nat.{ℕ, ◌-◌, ◌≤◌}
 use Rattle.ledger.specs.Tally.{one_if}
-use Rattle.ledger.proofs.Walks.{summed, sum_on, sum_ends}
-use Rattle.paper.specs.Base.{Slot, closed, stream, stream_total}
+use Rattle.ledger.proofs.Walks.{summed}
+use Rattle.paper.specs.Base.{Slot, stream_total}
 use Rattle.paper.specs.Saps.{listens}
 use Rattle.paper.specs.declared.PpaNumber.{PpaNumber}
 use Rattle.table_image.specs.Layout.{table_of}

@@ -1,13 +1,11 @@
 -- After k turns the first k numbers are counted.
-use Prim.Native.Nat.{ℕ, ◌-◌, ◌≤◌, ◌<◌}
+use Prim.Native.Nat.{◌<◌}
 use native.Mathlib.Omega.{arith}
 use mathlib.Core.Path.{sym, ◌∙◌}
 use lib.ListN.{length}
-use lib.Dec.{eqb}
 use borrow.Author.Rules.{rules}
-use Rattle.ledger.specs.Tally.{one_if}
 use Rattle.ledger.proofs.Tallies.{occ_sum}
-use Rattle.ledger.proofs.Walks.{summed, sum_on, sum_ends}
+use Rattle.ledger.proofs.Walks.{sum_on, sum_ends}
 use Rattle.table_soundness.proofs.occurs_in.Invariants.{is}
 use Rattle.table_soundness.proofs.occurs_in.Goals as goal
 

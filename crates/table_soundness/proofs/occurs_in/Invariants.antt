@@ -1,13 +1,9 @@
 -- After k turns the first k numbers are counted.
-use Prim.Native.Nat.{ℕ, ◌-◌, ◌≤◌, ◌<◌}
-use native.Mathlib.Omega.{arith}
-use mathlib.Core.Path.{sym, ◌∙◌}
+use Prim.Native.Nat.{ℕ, ◌-◌, ◌≤◌}
 use lib.ListN.{length}
 use lib.Dec.{eqb}
-use borrow.Author.Rules.{rules}
 use Rattle.ledger.specs.Tally.{one_if}
-use Rattle.ledger.proofs.Tallies.{occ_sum}
-use Rattle.ledger.proofs.Walks.{summed, sum_on, sum_ends}
+use Rattle.ledger.proofs.Walks.{summed}
 use Rattle.table_soundness.proofs.occurs_in.Given as goal
 
 abbrev pub is : ℕ → ℕ → ℕ

@@ -1,11 +1,7 @@
 -- A table has at most 8 PPAs, so the number's bytes are there.
-use Prim.Native.Nat.{◌+◌, ◌*◌, ◌≤◌}
 use native.Mathlib.Omega.{arith}
 use mathlib.Core.Path.{◌∙◌}
-use lib.ListN.{length}
-use borrow.Author.Rules.{rules}
 use Rattle.table_soundness.proofs.Slots.{ppa-number-at}
-use Rattle.table_image.specs.Layout.{places_offset, place_size}
 use Rattle.table_soundness.proofs.ppa_number.Goals as goal
 
 pub returns : goal.returns

@@ -1,17 +1,14 @@
 -- The PPAs before k have passed.
-use Prim.Native.Nat.{ℕ, ◌-◌, ◌<◌}
+use Prim.Native.Nat.{ℕ, ◌<◌}
 use mathlib.Core.Path.{◌≡◌, refl, ap, ◌∙◌}
 use lib.ListN.{length, get_or}
-use lib.Dec.{leb}
 use native.Mathlib.Omega.{arith}
-use borrow.Author.Rules.{rules}
 use borrow.Author.Tests.{lt-leb, le-leb}
 use Rattle.ledger.specs.Tally.{occ}
-use Rattle.ledger.proofs.Walks.{all_passed, all_fails, all_on, all_ends}
-use Rattle.paper.specs.Base.{Table, ppa_numbers}
+use Rattle.ledger.proofs.Walks.{all_fails, all_on, all_ends}
+use Rattle.paper.specs.Base.{ppa_numbers}
 use Rattle.table_image.specs.Layout.{table_of}
 use Rattle.table_soundness.proofs.Slots.{ppas_many}
-use mathlib.Core.Bool.{Bool}
 use Rattle.table_soundness.proofs.ppas_differ.Invariants.{once}
 use Rattle.table_soundness.proofs.ppas_differ.Goals as goal
 

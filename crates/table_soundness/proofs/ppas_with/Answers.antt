@@ -1,13 +1,11 @@
 -- After k turns the first k PPAs are counted.
-use Prim.Native.Nat.{ℕ, ◌-◌, ◌≤◌, ◌<◌}
+use Prim.Native.Nat.{◌≤◌, ◌<◌}
 use mathlib.Core.Path.{sym, ap, ◌∙◌}
 use lib.ListN.{length}
-use lib.Dec.{eqb}
 use native.Mathlib.Omega.{arith}
 use borrow.Author.Rules.{rules}
-use Rattle.ledger.specs.Tally.{one_if}
 use Rattle.ledger.proofs.Tallies.{occ_sum}
-use Rattle.ledger.proofs.Walks.{summed, sum_on, sum_ends}
+use Rattle.ledger.proofs.Walks.{sum_on, sum_ends}
 use Rattle.paper.specs.Base.{ppa_numbers}
 use Rattle.table_image.specs.Layout.{table_of}
 use Rattle.table_soundness.proofs.Slots.{ppas_many}

@@ -2,7 +2,6 @@
 use mathlib.Core.Path.{sym, ap₂, ◌∙◌}
 use mathlib.Core.Bool.{Bool, not}
 use lib.Dec.{eqb}
-use borrow.Author.Rules.{rules}
 use Rattle.paper.specs.Base.{Slot}
 use Rattle.table_image.specs.Layout.{table_of}
 use Rattle.ledger.proofs.Tallies.{all_counted}

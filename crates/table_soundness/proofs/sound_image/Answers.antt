@@ -1,9 +1,7 @@
 -- A tidy image is the image of the table that it holds, so that table can be tested where it lies.
 use mathlib.Core.Path.{◌∙◌, sym}
-use borrow.Author.Rules.{rules}
 use Rattle.table_image.specs.Layout.{sound_image}
 use Rattle.table_image.proofs.Lending.{lent-tidy}
-use Rattle.ledger.proofs.Tallies.{test_held, test_failed}
 use Rattle.table_soundness.proofs.sound_image.Goals as goal
 
 pub returns-then-not-is_tidy : goal.returns-then-not-is_tidy
