@@ -58,10 +58,10 @@ replay fates: %: target/run/%
 
 # ---- what is proved
 
-# What is not proved yet is proved first, crate by crate, which takes some minutes. `rt` works on all cores, and two of them
-# would prove the same crates: under `make -j` one waits for the other. What this machine lacks is said first.
+# What is not proved yet is proved first, crate by crate, which takes some minutes, and `rt` works on all cores: under `make -j`
+# one of two that need the same crates waits for the other. What this machine lacks is said first.
 CRATE = $(patsubst lib%.a,%,$(@F))
-PROVE = flock target env -C crates/$(CRATE) rt
+PROVE = env -C crates/$(CRATE) rt
 PROVED = tee target/$(@F).log | { grep '^rt: ' || :; } || { cat target/$(@F).log; exit 1; }
 
 # the library and its header in one folder, target/lib/
@@ -76,10 +76,12 @@ target/lib/kungthevi.h: c/kungthevi.h
 	@mkdir -p $(@D)
 	cp $< $@
 
-# `rt` runs a program that it has built: on what the gate runs it on.
+# `rt` builds a program if it is proved, and then runs it, here on no input. Where only the run fails, as on another machine than
+# x86-64, the program is there.
 target/bin/replay target/bin/fates: $(RATTLE)
 	@mkdir -p $(@D) && .ci/setup --check
-	$(PROVE) run < crates/$(CRATE)/stdin 2>&1 > /dev/null | $(PROVED)
+	rm -f crates/$(CRATE)/out/$(@F)
+	{ $(PROVE) run < /dev/null || test -e crates/$(CRATE)/out/$(@F); } 2>&1 > /dev/null | $(PROVED)
 	install crates/$(CRATE)/out/$(@F) $@
 
 # what is run, on any machine: target/run/NAME for the kit's program target/bin/NAME
