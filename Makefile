@@ -1,4 +1,5 @@
-# Short ways to everything. C programs are built below target/c/; `rt` builds and proves the rest below target/.
+# Short ways to everything. All is built below target/, C programs below target/c/; what `rt` proves and builds of a crate lies in
+# the crate's out/, and is copied from there. No links are made: `rt ci` takes none in the tree.
 SHELL = /bin/bash
 .SHELLFLAGS = -o pipefail -c
 .DELETE_ON_ERROR:
@@ -26,9 +27,9 @@ LIBRARY_CXX = tools/cross g++
 LIBRARY_FLAGS = -fno-sanitize=address
 endif
 
-RATTLE := crates.txt $(shell find crates -name '*.rt' -o -name '*.antt')
+RATTLE := crates.txt $(shell find crates -name out -prune -o \( -name '*.rt' -o -name '*.antt' \) -print)
 LIBRARY = target/lib/libkungthevi.a
-INNER = target/staticlib/libinner.a
+INNER = target/inner/libinner.a
 REPLAY = target/run/replay
 FATES = target/run/fates
 CAPTURES = $(patsubst captures/%.records,target/captures/%,$(wildcard captures/*.records))
@@ -57,30 +58,31 @@ replay fates: %: target/run/%
 
 # ---- what is proved
 
-# What is not proved yet is proved first, crate by crate, which takes some minutes. `rt` works on all cores, and two of them
-# would write the same files: under `make -j` one waits for the other. What this machine lacks is said first.
-PROVE = flock target rt
-PROVED = tee target/$(@F).log | grep '^rt: ' || { cat target/$(@F).log; exit 1; }
+# What is not proved yet is proved first, crate by crate, which takes some minutes, and `rt` works on all cores: under `make -j`
+# one of two that need the same crates waits for the other. What this machine lacks is said first.
+CRATE = $(patsubst lib%.a,%,$(@F))
+PROVE = env -C crates/$(CRATE) rt
+PROVED = tee target/$(@F).log | { grep '^rt: ' || :; } || { cat target/$(@F).log; exit 1; }
 
 # the library and its header in one folder, target/lib/
 lib: $(LIBRARY) target/lib/kungthevi.h
 
-$(LIBRARY): $(RATTLE)
+$(LIBRARY) $(INNER): $(RATTLE)
 	@mkdir -p $(@D) && .ci/setup --check
-	$(PROVE) staticlib kungthevi 2>&1 | $(PROVED)
-	cp target/staticlib/libkungthevi.a $@
+	$(PROVE) lib 2>&1 | $(PROVED)
+	cp crates/$(CRATE)/out/$(@F) $@
 
 target/lib/kungthevi.h: c/kungthevi.h
 	@mkdir -p $(@D)
 	cp $< $@
 
-$(INNER): $(RATTLE)
+# `rt` builds a program if it is proved, and then runs it, here on no input. Where only the run fails, as on another machine than
+# x86-64, the program is there.
+target/bin/replay target/bin/fates: $(RATTLE)
 	@mkdir -p $(@D) && .ci/setup --check
-	$(PROVE) staticlib inner 2>&1 | $(PROVED)
-
-target/bin/replay target/bin/fates: target/bin/%: $(RATTLE)
-	@mkdir -p $(@D) && .ci/setup --check
-	$(PROVE) check $* 2>&1 | $(PROVED)
+	rm -f crates/$(CRATE)/out/$(@F)
+	{ $(PROVE) run < /dev/null || test -e crates/$(CRATE)/out/$(@F); } 2>&1 > /dev/null | $(PROVED)
+	install crates/$(CRATE)/out/$(@F) $@
 
 # what is run, on any machine: target/run/NAME for the kit's program target/bin/NAME
 run: $(REPLAY) $(FATES)
@@ -88,10 +90,10 @@ run: $(REPLAY) $(FATES)
 target/run/%: target/bin/%
 	@mkdir -p $(@D)
 ifdef EMULATED
-	ln -sf ../bin/$* $@.x86-64
+	install $< $@.x86-64
 	install tools/emulated $@
 else
-	ln -sf ../bin/$* $@
+	install $< $@
 endif
 
 # ---- C programs

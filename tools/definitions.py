@@ -2,41 +2,40 @@
 """Replays every capture of captures/ by the definitions, and compares with its expected texts.
 
 For each capture it writes a claim on its calls, from a fresh table and with 4,096 bytes of room: each reads as far as it must
-(`recordSize`, crates/paper), and what it comes to by `step` prints as NAME.text (crates/replay_transcript), byte by byte. Where
+(`record_size`, crates/paper), and what it comes to by `step` prints as NAME.text (crates/replay_transcript), byte by byte. Where
 there is a NAME.fates another says that the same calls print as that (crates/fates_book, fates_register, fates_report). The
-checker computes them. The claims stand in a crate of their own below target/definitions/, and what is proved already in target/
-serves them. The last line is 'N passed, M failed'; exit status 1 if a claim fails.
+checker computes them. The claims stand in a crate of their own, in a repository made for the run and outside of this one: here
+`rt ci` takes no file of definitions that is no crate's. It has copies of the crates that the claims speak of, for which `rt` takes
+what is proved of them here. The last line is 'N passed, M failed'; exit status 1 if a claim fails.
 """
 import importlib.util
 import pathlib
 import re
+import shutil
 import subprocess
 import sys
+import tempfile
 
 TOP = pathlib.Path(__file__).resolve().parent.parent
-HERE = TOP / "target/definitions"
+# The crates that the claims speak of. The last stands on all others.
 BELOW = ["ledger", "octets", "paper", "wire_records", "text", "replay_transcript", "fates_book", "fates_register", "fates_report"]
 
 CLAIMS = """\
 -- What the definitions come to on the captures.
-use Prim.Native.Nat.{ℕ, _+_, _*_}
-use mathlib.Core.Path.{_≡_, refl}
-use mathlib.Core.Bool.{Bool, true}
-use mathlib.Core.List.{List, [], _∷_, _++_}
-use lib.ListN.{length, replicate}
-use lib.Dec.{eqb, ltb}
-use Rattle·ledger.specs.Choice.{_⇒_∣_, pick, both}
-use Rattle·ledger.specs.Tally.{oneIf}
-use Rattle·octets.specs.Runs.{over, sameBytes}
-use Rattle·paper.specs.Base.{Table, fresh}
-use Rattle·paper.specs.RecordsOut.{allBytes}
-use Rattle·paper.specs.Refusals.{Outcome}
-use Rattle·paper.specs.Step.{step}
-use Rattle·replay_transcript.specs.Transcript.{title, totals}
-use Rattle·fates_book.specs.declared.Line.{Line}
-use Rattle·fates_book.specs.Lines.{linesOf as saidBy}
-use Rattle·fates_register.specs.Register.{blank}
-use Rattle·fates_report.specs.Report.{heading, closing}
+use mathlib.Core.Path.{◌≡◌, refl}
+use Rattle.std.specs.Prelude.{ℕ, ◌+◌, ◌*◌, Bool, true, List, [], ◌∷◌, ◌++◌, length, replicate, eqb, ltb}
+use Rattle.ledger.specs.Choice.{◌⇒◌∣◌, pick, both}
+use Rattle.ledger.specs.Tally.{one_if}
+use Rattle.octets.specs.Runs.{over, same_bytes}
+use Rattle.paper.specs.Base.{Table, fresh}
+use Rattle.paper.specs.RecordsOut.{all_bytes}
+use Rattle.paper.specs.Refusals.{Outcome}
+use Rattle.paper.specs.Step.{step}
+use Rattle.replay_transcript.specs.Transcript.{title, totals}
+use Rattle.fates_book.specs.declared.Line.{Line}
+use Rattle.fates_book.specs.Lines.{lines_of as said_by}
+use Rattle.fates_register.specs.Register.{blank}
+use Rattle.fates_report.specs.Report.{heading, closing}
 USES
 
 -- how far its call reads, the bytes lent, and what must be printed
@@ -44,25 +43,25 @@ data Call : Type 0 where
   call : ℕ → List ℕ → List ℕ → Call
 
 abbrev number : Outcome → ℕ
-number o = pick (ltb 0 (o .refusal)) (o .refusal * 65536) (length (allBytes (o .records)) + o .opened * 16777216)
+number o = pick (ltb 0 o.refusal) (o.refusal * 65536) (length (all_bytes o.records) + o.opened * 16777216)
 
 abbrev printed : ℕ → Outcome → List ℕ
-printed n o = callText n (number o) (over (allBytes (o .records)) (replicate 4096 0))
+printed n o = call_text n (number o) (over (all_bytes o.records) (replicate 4096 0))
 
 -- from a table on, with so many calls made and so many of them refused; the last line
 abbrev replays : Table → ℕ → ℕ → List Call → List ℕ → Bool
-replays t n m [] end = sameBytes (totals n m) end
+replays t n m [] end = same_bytes (totals n m) end
 replays t n m (call size r w ∷ l) end =
-    both (both (eqb (recordSize r) size) (sameBytes (printed (n + 1) (step t r 4096)) w))
-    (replays (step t r 4096 .table) (n + 1) (m + oneIf (ltb 0 (step t r 4096 .refusal))) l end)
+    both (both (eqb (record_size r) size) (same_bytes (printed (n + 1) (step t r 4096)) w))
+    (replays (step t r 4096).table (n + 1) (m + one_if (ltb 0 (step t r 4096).refusal)) l end)
 
 -- what the records of calls say, from a table on
 abbrev said : Table → List (List ℕ) → List Line
 said t [] = []
-said t (r ∷ l) = saidBy r (step t r 4096 .opened) (allBytes (step t r 4096 .records)) ++ said (step t r 4096 .table) l
+said t (r ∷ l) = said_by r (step t r 4096).opened (all_bytes (step t r 4096).records) ++ said (step t r 4096).table l
 
 abbrev account : List Line → List ℕ
-account ys = heading ++ allText ys blank ++ closing (enteredAll ys blank)
+account ys = heading ++ all_text ys blank ++ closing (entered_all ys blank)
 """
 
 
@@ -128,13 +127,13 @@ def text_claim(name):
     if len(records) != len(texts):
         return ""
     calls = " ∷ ".join([f"call {size} {antt_bytes(r)} {antt_bytes(w)}" for (size, r), w in zip(records, texts)] + ["[]"])
-    return f"both (sameBytes title {antt_bytes(first)}) (replays fresh 0 0 ({calls}) {antt_bytes(last)})"
+    return f"both (same_bytes title {antt_bytes(first)}) (replays fresh 0 0 ({calls}) {antt_bytes(last)})"
 
 
 def fates_claim(name):
     """That the capture prints its fates."""
     records = " ∷ ".join([antt_bytes(record) for _, record in lent(assembled(name))] + ["[]"])
-    return f"sameBytes (account (said fresh ({records}))) {antt_bytes((TOP / 'captures' / (name + '.fates')).read_bytes())}"
+    return f"same_bytes (account (said fresh ({records}))) {antt_bytes((TOP / 'captures' / (name + '.fates')).read_bytes())}"
 
 
 def claims_by_file():
@@ -154,41 +153,49 @@ def shut_names():
                 yield crate, path.stem, names
 
 
-def write_crate(claims):
-    crate = HERE / "crates/replayed"
+def write_repository(here, claims):
+    crate = here / "crates/replayed"
     for part in ("src", "specs", "proofs"):
-        (crate / part).mkdir(parents=True, exist_ok=True)
+        (crate / part).mkdir(parents=True)
     for name in BELOW:
-        link = HERE / "crates" / name
-        if not link.is_symlink() or link.readlink() != TOP / "crates" / name:
-            link.unlink(missing_ok=True)
-            link.symlink_to(TOP / "crates" / name)
-    if not (HERE / "target").exists():
-        (HERE / "target").symlink_to("..")
+        shutil.copytree(TOP / "crates" / name, here / "crates" / name, ignore=shutil.ignore_patterns("out"))
     lines = [line for line in (TOP / "crates.txt").read_text().splitlines() if line.split(":")[0] in BELOW]
-    (HERE / "crates.txt").write_text("\n".join(lines + ["replayed: " + " ".join(BELOW)]) + "\n")
-    (crate / "src/lib.rt").write_text("// Claims alone.\n")
+    (here / "crates.txt").write_text("\n".join(lines + ["replayed: " + " ".join(BELOW)]) + "\n")
+    (crate / "src/lib.rt").write_text("// Claims alone.\n#![tactic(auto)]\n")
     (crate / "specs/Lib.antt").write_text("-- none\n")
     (crate / "proofs/Lib.antt").write_text("pub mod Claims\n")
     shut = list(shut_names())
-    uses = "\n".join(f"use Rattle·{crate}.specs.{module}.{{{', '.join(names)}}}" for crate, module, names in shut)
-    opened = " ".join(["_⇒_∣_"] + [name for _, _, names in shut for name in names])
+    uses = "\n".join(f"use Rattle.{crate}.specs.{module}.{{{', '.join(names)}}}" for crate, module, names in shut)
+    opened = " ".join(["◌⇒◌∣◌"] + [name for _, _, names in shut for name in names])
     stated = [f"\n{name} : {claim} ≡ true\nunfolding {opened}\n{name} = refl\n" for name, claim in claims.items() if claim]
     text = CLAIMS.replace("USES", uses) + "".join(stated)
     (crate / "proofs/Claims.antt").write_text(text)
 
 
+def run(*command, cwd):
+    done = subprocess.run(command, cwd=cwd, stdout=subprocess.PIPE, stderr=subprocess.STDOUT, text=True)
+    return done.returncode, done.stdout
+
+
+def check(claims):
+    """The exit status and the output of a check of the claims, or of what they speak of where that is not proved."""
+    status, output = run("rt", "lib", cwd=TOP / "crates" / BELOW[-1])
+    if status == 0:
+        with tempfile.TemporaryDirectory() as here:
+            write_repository(pathlib.Path(here), claims)
+            status, output = run("rt", "check", cwd=here + "/crates/replayed")
+    return status, output
+
+
 def main():
     claims = dict(claims_by_file())
     names = list(claims)
-    write_crate(claims)
-    checked = subprocess.run(["flock", TOP / "target", "rt", "check", "replayed"], cwd=HERE, capture_output=True, text=True)
-    output = checked.stdout + checked.stderr
+    status, output = check(claims)
     refused = set(re.findall(r"Claims\.antt:\d+:\d+: error: `([^`]+)`", output))
     failed = [name for name in names if not claims[name] or name in refused]
     for name in failed:
         print(f"{name}: the definitions do not print it")
-    if checked.returncode != 0 and not refused:
+    if status != 0 and not failed:
         print(f"{output[-2000:]}the definitions could not be checked")
         failed = names
     print(f"{len(names) - len(failed)} passed, {len(failed)} failed")
