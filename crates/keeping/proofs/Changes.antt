@@ -10,7 +10,7 @@ use native.Mathlib.Omega.{arith}
 use borrow.Author.Tests.{eqb-true, ltb-true, ltb-false, lt-ltb}
 use Rattle.ledger.specs.Tally.{occ, has}
 use Rattle.ledger.proofs.Tallies.{occ-length, picked}
-use Rattle.paper.specs.Base.{number_of, number, is_in, is_among, bound_states, connection_states, no_stream, in_state, attached_in, settled, Slot, closed, stream}
+use Rattle.paper.specs.Base.{number_of, number, is_in, is_among, bound_states, connection_states, no_stream, in_state, attached_in, settled, Slot, closed}
 use Rattle.paper.specs.Saps.{as_bind_allows, most_open}
 use Rattle.paper.specs.declared.State.{State}
 use Rattle.paper.specs.declared.Stream.{Stream}

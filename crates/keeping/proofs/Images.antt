@@ -19,7 +19,7 @@ use Rattle.octets.specs.Blocks.{flat}
 use Rattle.octets.proofs.Runs.{part_bytes, zero-bytes, zeros_pass}
 use Rattle.octets.proofs.Numbers.{be32_at-small}
 use Rattle.octets.proofs.Blocks.{flat-length}
-use Rattle.paper.specs.Base.{Slot, closed, Table, slot, ppa_numbers, no_ppa, fresh, stream_total, mac_size, stream}
+use Rattle.paper.specs.Base.{Slot, closed, Table, slot, ppa_numbers, no_ppa, fresh, stream_total, mac_size}
 use Rattle.paper.specs.Correlations.{occurrences}
 use Rattle.paper.specs.Sound.{sound}
 use Rattle.paper.specs.Step.{step}

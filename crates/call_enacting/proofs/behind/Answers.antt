@@ -1,7 +1,6 @@
 -- Each of the two messages has its part of the record, and the others keep the stream's own.
 use Rattle.call_enacting.specs.Behind.{behind_by}
 use Rattle.call_enacting.proofs.Laws.{not_event}
-use borrow.Author.Rules.{rules}
 use Rattle.call_enacting.proofs.behind.Goals as goal
 
 pub returns-in-ConnectInd : goal.returns-in-ConnectInd

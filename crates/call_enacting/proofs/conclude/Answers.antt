@@ -3,7 +3,6 @@ use mathlib.Core.Path.{subst}
 use Rattle.table_image.specs.Layout.{table_of}
 use Rattle.call_outcomes.specs.Deciding.{Enactable}
 use Rattle.call_outcomes.proofs.Laws.{leaves_refused}
-use borrow.Author.Rules.{rules}
 use Rattle.call_enacting.proofs.conclude.Goals as goal
 
 pub enact-requires : goal.enact-requires

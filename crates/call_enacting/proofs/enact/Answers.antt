@@ -6,7 +6,6 @@ use Rattle.table_image.specs.Layout.{table_of}
 use Rattle.table_image.proofs.Lending.{lent_after, change_after}
 use Rattle.call_outcomes.proofs.Laws.{leaves_served}
 use Rattle.call_changes.proofs.Laws.{shaped-changed}
-use borrow.Author.Rules.{rules}
 use Rattle.octets.proofs.Writing.{wrote_of}
 use Rattle.call_enacting.proofs.enact.Goals as goal
 

@@ -1,5 +1,4 @@
 -- The PPA that the stream is attached to has the MAC.
-use borrow.Author.Rules.{rules}
 use Rattle.call_enacting.proofs.mac_at.Goals as goal
 
 pub returns : goal.returns

@@ -17,7 +17,6 @@ use Rattle.paper.specs.declared.LineOrder.TheVariants as line_order
 use Rattle.paper.proofs.RecordsOut.{one_wrote}
 use Rattle.call_enacting.specs.Concluding.{datagram_bytes}
 use Rattle.call_enacting.proofs.Laws.{bare_most, bare_orders_lem}
-use borrow.Author.Rules.{rules}
 use Rattle.call_enacting.proofs.put_named_order.Goals as goal
 
 pub put_connect-requires : goal.put_connect-requires

@@ -6,7 +6,6 @@ use lib.ListN.{length}
 use Rattle.paper.specs.Effects.{orders_in}
 use Rattle.paper.specs.Room.{most_told}
 use Rattle.paper.specs.declared.Telling.{Telling}
-use borrow.Author.Rules.{rules}
 use Rattle.call_enacting.proofs.put_orders.Goals as goal
 
 pub put_named_order-requires : goal.put_named_order-requires

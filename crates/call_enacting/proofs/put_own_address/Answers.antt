@@ -5,7 +5,6 @@ use Rattle.paper.specs.Base.{mac_at}
 use Rattle.table_image.specs.Layout.{table_of}
 use Rattle.paper.specs.Effects.{behind_reply}
 use Rattle.call_enacting.proofs.Laws.{not_own}
-use borrow.Author.Rules.{rules}
 use Rattle.octets.proofs.Writing.{wrote-more}
 use Rattle.call_enacting.proofs.put_own_address.Goals as goal
 

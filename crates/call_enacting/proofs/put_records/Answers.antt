@@ -1,5 +1,4 @@
 -- Each piece begins where the one before ended, and together they are the records in their order.
-use Prim.Native.Nat.{◌+◌}
 use native.Mathlib.Omega.{arith}
 use mathlib.Core.List.{◌++◌}
 use Rattle.paper.specs.Base.{slot, mac_at}
@@ -7,7 +6,6 @@ use Rattle.paper.specs.RecordsOut.{all_bytes, flush_if}
 use Rattle.paper.specs.Effects.{orders_in, ups_in, told}
 use Rattle.paper.proofs.RecordsOut.{bytes_in_order}
 use Rattle.table_image.specs.Layout.{table_of}
-use borrow.Author.Rules.{rules}
 use Rattle.octets.proofs.Writing.{wrote-next, wrote-most, wrote_of}
 use Rattle.call_enacting.proofs.put_records.Goals as goal
 

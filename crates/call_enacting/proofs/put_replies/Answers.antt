@@ -9,7 +9,6 @@ use Rattle.paper.specs.Effects.{behind_reply, ups_in}
 use Rattle.paper.specs.Room.{most_said}
 use Rattle.paper.specs.declared.Saying.{Saying}
 use Rattle.table_image.specs.Layout.{table_of}
-use borrow.Author.Rules.{rules}
 use Rattle.paper.proofs.RecordsOut.{one_wrote}
 use Rattle.call_enacting.proofs.put_replies.Goals as goal
 

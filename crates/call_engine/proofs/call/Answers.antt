@@ -1,10 +1,8 @@
 -- An image that is not sound is refusal 16 whatever the record is; on a sound one the call is that on a sound table.
 use Prim.Native.Nat.{ℕ}
 use mathlib.Core.Path.{sym, ap, ◌∙◌}
-use borrow.Author.Tests.{not-true, not-false}
 use Rattle.call_outcomes.specs.Leaving.{left}
 use Rattle.call_outcomes.proofs.Laws.{unsound_gives_sixteen}
-use borrow.Author.Rules.{rules}
 use Rattle.call_engine.proofs.call.Goals as goal
 
 pub returns-then-not-sound_image : goal.returns-then-not-sound_image

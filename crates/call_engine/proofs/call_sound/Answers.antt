@@ -8,13 +8,12 @@ use lib.Dec.{ltb}
 use borrow.Author.Tests.{lt-ltb, le-ltb}
 use Rattle.table_image.specs.Layout.{table_of}
 use Rattle.call_outcomes.proofs.Laws.{leaves_refused, where_true, where_false}
-use Rattle.call_outcomes.specs.Leaving.{left, leaving}
+use Rattle.call_outcomes.specs.Leaving.{leaving}
 use Rattle.paper.specs.StateRows.{state_rows}
 use Rattle.paper.specs.Step.{serve_by, is_readable}
 use Rattle.paper.specs.Room.{room_for}
 use Rattle.paper.specs.declared.Input.{Input}
 use Rattle.call_engine.proofs.Laws.{call-on}
-use borrow.Author.Rules.{rules}
 use Rattle.call_engine.proofs.call_sound.Goals as goal
 
 pub returns-then-not-is_readable : goal.returns-then-not-is_readable

@@ -2,7 +2,6 @@
 use mathlib.Core.Path.{◌∙◌}
 use Rattle.table_image.proofs.Lending.{sound-lent}
 use Rattle.call_engine.proofs.Laws.{image_grants_few, read_whole, from_line}
-use borrow.Author.Rules.{rules}
 use Rattle.call_engine.proofs.decide_coming.Goals as goal
 
 pub message_to-requires : goal.message_to-requires

@@ -4,7 +4,6 @@ use native.Mathlib.Omega.{arith}
 use mathlib.Core.Path.{◌≡◌, ap}
 use Rattle.octets.specs.Runs.{part}
 use Rattle.paper.specs.RecordsIn.{head_size}
-use borrow.Author.Rules.{rules}
 use Rattle.call_engine.proofs.message_in.Goals as goal
 
 pub returns : goal.returns

@@ -5,7 +5,7 @@ use mathlib.Core.Path.{sym, ap, ◌∙◌}
 use mathlib.Core.Bool.{not}
 use mathlib.Core.List.{List}
 use lib.ListN.{length}
-use borrow.Author.Tests.{lt-ltb, le-ltb, not-false}
+use borrow.Author.Tests.{lt-ltb, le-ltb}
 use Rattle.ledger.specs.Choice.{◌⇒◌∣◌}
 use Rattle.octets.specs.Blocks.{block_size}
 use Rattle.octets.proofs.Runs.{part_length}
@@ -16,7 +16,6 @@ use Rattle.paper.specs.Sight.{sends}
 use Rattle.paper.specs.Step.{comes, of_open, message}
 use Rattle.table_image.specs.Layout.{table_of}
 use Rattle.table_image.proofs.Shapes.{open_within}
-use borrow.Author.Rules.{rules}
 use Rattle.call_engine.proofs.message_to.Goals as goal
 
 pub returns-then-not-is_open : goal.returns-then-not-is_open

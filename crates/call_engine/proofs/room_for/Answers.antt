@@ -1,6 +1,5 @@
 -- A frame alone needs more.
 use Rattle.call_engine.proofs.Laws.{plain_room}
-use borrow.Author.Rules.{rules}
 use Rattle.call_engine.proofs.room_for.Goals as goal
 
 pub returns-in_default : goal.returns-in_default

@@ -12,7 +12,6 @@ use Rattle.paper.specs.Room.{room_for}
 use Rattle.paper.specs.declared.Input.{Input}
 use Rattle.paper.proofs.SoundTests.{shut}
 use Rattle.call_engine.proofs.Laws.{parts, to_stream, one_room, read_whole}
-use borrow.Author.Rules.{rules}
 use Rattle.octets.proofs.Runs.{part_length}
 use Rattle.paper.specs.Base.{mac_size}
 use Rattle.call_engine.proofs.serve.Goals as goal

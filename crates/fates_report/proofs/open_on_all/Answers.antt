@@ -1,14 +1,8 @@
 -- The sum so far and that of the streams that follow are the whole sum at every turn.
-use Prim.Native.Nat.{ℕ, ◌+◌, ◌*◌, ◌-◌, ◌≤◌}
 use native.Mathlib.Omega.{arith}
-use mathlib.Core.Path.{◌≡◌}
-use mathlib.Core.List.{List}
 use borrow.Author.Rules.{rules}
 use Rattle.paper.specs.Base.{stream_total}
-use Rattle.paper.specs.Saps.{most_open}
-use Rattle.fates_report.specs.Report.{open_on_all}
 use Rattle.fates_report.proofs.Laws.{sum_end, sum_next}
-use Rattle.fates_report.proofs.open_on_all.Invariants.{ToCome}
 use Rattle.fates_report.proofs.open_on_all.Goals as goal
 
 pub loop-i-init : goal.loop-i-init

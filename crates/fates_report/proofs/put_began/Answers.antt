@@ -1,7 +1,6 @@
 -- A stream without a page has no text, as the one test says.
 use native.Mathlib.Omega.{arith}
 use borrow.Author.Tests.{lt-ltb, le-ltb}
-use borrow.Author.Rules.{rules}
 use Rattle.ledger.specs.Choice.{◌⇒◌∣◌}
 use Rattle.octets.proofs.Writing.{wrote_nothing, wrote-most}
 use Rattle.fates_report.specs.Report.{line_text}

@@ -1,5 +1,4 @@
 -- Each end has its own word in the definition too.
-use borrow.Author.Rules.{rules}
 use Rattle.fates_report.proofs.put_ended.Goals as goal
 
 pub returns-in-Accepted : goal.returns-in-Accepted

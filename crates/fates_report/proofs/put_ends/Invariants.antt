@@ -1,14 +1,11 @@
 -- Each turn writes the text of the next stream, so the streams that follow lead to the same text.
 use Prim.Native.Nat.{ℕ, ◌+◌, ◌*◌, ◌-◌, ◌≤◌}
-use native.Mathlib.Omega.{arith}
-use mathlib.Core.Path.{◌≡◌, refl}
+use mathlib.Core.Path.{◌≡◌}
 use mathlib.Core.List.{List}
 use lib.ListN.{length}
-use borrow.Author.Rules.{rules}
-use Rattle.octets.proofs.Writing.{Unwritten, all_unwritten, less_unwritten, none_unwritten, wrote-most, wrote_of}
+use Rattle.octets.proofs.Writing.{Unwritten}
 use Rattle.paper.specs.Base.{stream_total}
-use Rattle.fates_report.specs.Report.{end_text, end_texts, end_size}
-use Rattle.fates_report.proofs.Laws.{ends-end, ends_next}
+use Rattle.fates_report.specs.Report.{end_texts, end_size}
 use Rattle.fates_report.proofs.put_ends.Given as goal
 
 pub record ToCome (out₀ : List ℕ) (at : ℕ) (register out : List ℕ) (e i : ℕ) : Type 0 where

@@ -1,6 +1,5 @@
 -- The line has six pieces, and each is written behind the one before it.
 use native.Mathlib.Omega.{arith}
-use borrow.Author.Rules.{rules}
 use Rattle.octets.proofs.Writing.{wrote_then, wrote-most, wrote_of}
 use Prim.Native.Nat.{◌≤◌}
 use lib.ListN.{length}

@@ -1,6 +1,5 @@
 -- Each kind of line has its own text in the definition too, and three of them none.
 use native.Mathlib.Omega.{arith}
-use borrow.Author.Rules.{rules}
 use Rattle.octets.proofs.Writing.{wrote_nothing, wrote-most, wrote-more}
 use Rattle.fates_report.specs.Report.{line_text}
 use Rattle.fates_report.proofs.put_line.Goals as goal

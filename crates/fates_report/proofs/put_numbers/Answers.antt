@@ -1,14 +1,12 @@
 -- Each turn writes the first of the numbers that are left, so those that are left lead to the same text.
-use Prim.Native.Nat.{ℕ, ◌+◌, ◌*◌, ◌-◌, ◌≤◌}
+use Prim.Native.Nat.{◌+◌, ◌-◌}
 use native.Mathlib.Omega.{arith}
-use mathlib.Core.Path.{◌≡◌, refl}
-use mathlib.Core.List.{List}
-use lib.ListN.{length, get_or}
+use mathlib.Core.Path.{refl}
+use lib.ListN.{get_or}
 use borrow.Author.Rules.{rules}
-use Rattle.octets.proofs.Writing.{Unwritten, all_unwritten, less_unwritten, none_unwritten, wrote-most, wrote_of}
-use Rattle.fates_report.specs.Report.{spaced_number, numbers, spaced_size}
+use Rattle.octets.proofs.Writing.{all_unwritten, less_unwritten, none_unwritten, wrote-most, wrote_of}
+use Rattle.fates_report.specs.Report.{spaced_number, numbers}
 use Rattle.fates_report.proofs.Laws.{numbers-end, numbers-next}
-use Rattle.fates_report.proofs.put_numbers.Invariants.{ToCome}
 use Rattle.fates_report.proofs.put_numbers.Goals as goal
 
 pub loop-left-init : goal.loop-left-init

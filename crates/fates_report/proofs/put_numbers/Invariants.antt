@@ -1,13 +1,10 @@
 -- Each turn writes the first of the numbers that are left, so those that are left lead to the same text.
-use Prim.Native.Nat.{ℕ, ◌+◌, ◌*◌, ◌-◌, ◌≤◌}
-use native.Mathlib.Omega.{arith}
-use mathlib.Core.Path.{◌≡◌, refl}
+use Prim.Native.Nat.{ℕ, ◌+◌, ◌*◌, ◌≤◌}
+use mathlib.Core.Path.{◌≡◌}
 use mathlib.Core.List.{List}
-use lib.ListN.{length, get_or}
-use borrow.Author.Rules.{rules}
-use Rattle.octets.proofs.Writing.{Unwritten, all_unwritten, less_unwritten, none_unwritten, wrote-most, wrote_of}
-use Rattle.fates_report.specs.Report.{spaced_number, numbers, spaced_size}
-use Rattle.fates_report.proofs.Laws.{numbers-end, numbers-next}
+use lib.ListN.{length}
+use Rattle.octets.proofs.Writing.{Unwritten}
+use Rattle.fates_report.specs.Report.{numbers, spaced_size}
 use Rattle.fates_report.proofs.put_numbers.Given as goal
 
 pub record ToCome (out₀ : List ℕ) (at : ℕ) (register : List ℕ) (c k : ℕ) (out : List ℕ) (e cell left : ℕ) : Type 0 where

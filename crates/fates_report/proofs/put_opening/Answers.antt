@@ -3,7 +3,6 @@ use native.Mathlib.Omega.{arith}
 use Prim.Native.Nat.{◌≤◌}
 use mathlib.Core.Path.{◌≡◌}
 use lib.ListN.{length}
-use borrow.Author.Rules.{rules}
 use Rattle.octets.proofs.Writing.{wrote_then, wrote-most, wrote_of}
 use Rattle.fates_register.specs.Register.{open_on}
 use Rattle.fates_report.proofs.put_opening.Goals as goal

@@ -1,16 +1,13 @@
 -- Each turn writes the line of the oldest that is left, so those that are left lead to the same text; a free place ends them.
-use Prim.Native.Nat.{ℕ, ◌+◌, ◌*◌, ◌-◌, ◌≤◌}
+use Prim.Native.Nat.{◌+◌, ◌-◌}
 use native.Mathlib.Omega.{arith}
-use mathlib.Core.Path.{◌≡◌, refl}
-use mathlib.Core.List.{List}
-use lib.ListN.{length}
+use mathlib.Core.Path.{refl}
 use borrow.Author.Rules.{rules}
-use Rattle.octets.proofs.Writing.{Unwritten, all_unwritten, less_unwritten, none_unwritten, wrote-most, wrote_of}
+use Rattle.octets.proofs.Writing.{all_unwritten, less_unwritten, none_unwritten, wrote-most, wrote_of}
 use Rattle.paper.specs.Saps.{most_open}
-use Rattle.fates_register.specs.Register.{places_of, places_end}
-use Rattle.fates_report.specs.Report.{word_still_open, indication_line, open_lines, indication_size}
+use Rattle.fates_register.specs.Register.{places_of}
+use Rattle.fates_report.specs.Report.{word_still_open, indication_line, open_lines}
 use Rattle.fates_report.proofs.Laws.{open_end, open_none, open_next}
-use Rattle.fates_report.proofs.put_still_open.Invariants.{ToCome}
 use Rattle.fates_report.proofs.put_still_open.Goals as goal
 
 pub loop-left-init : goal.loop-left-init

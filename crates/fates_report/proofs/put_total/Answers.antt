@@ -2,7 +2,6 @@
 use native.Mathlib.Omega.{arith}
 use Prim.Native.Nat.{◌≤◌}
 use lib.ListN.{length}
-use borrow.Author.Rules.{rules}
 use Rattle.octets.proofs.Writing.{wrote_then, wrote-most, wrote_of}
 use Rattle.fates_report.proofs.put_total.Goals as goal
 

@@ -1,7 +1,6 @@
 -- The two tests are those of the definition: that the stream has a page, and that the number has a place on it.
 use native.Mathlib.Omega.{arith}
 use borrow.Author.Tests.{lt-ltb, le-ltb}
-use borrow.Author.Rules.{rules}
 use Rattle.ledger.specs.Choice.{◌⇒◌∣◌}
 use Rattle.octets.proofs.Writing.{wrote_nothing, wrote-most}
 use Rattle.fates_report.specs.Report.{line_text}

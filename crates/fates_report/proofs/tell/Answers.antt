@@ -1,5 +1,4 @@
 -- The text is that of the register as it was, since the line is entered behind it.
-use borrow.Author.Rules.{rules}
 use Rattle.fates_report.proofs.tell.Goals as goal
 
 pub returns : goal.returns

@@ -1,7 +1,6 @@
 -- Where a stream was opened its one line is told, and else there is none.
 use native.Mathlib.Omega.{arith}
 use mathlib.Core.Path.{refl}
-use borrow.Author.Rules.{rules}
 use Rattle.octets.proofs.Writing.{wrote_nothing, wrote-most}
 use Rattle.fates_register.specs.Register.{entered_all}
 use Rattle.fates_report.specs.Report.{all_text}

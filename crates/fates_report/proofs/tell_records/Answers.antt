@@ -1,21 +1,16 @@
 -- Each turn tells the line of the record where the turn begins, so what is still to be told leads to the same text and register.
-use Prim.Native.Nat.{ℕ, ◌+◌, ◌*◌, ◌-◌, ◌≤◌}
+use Prim.Native.Nat.{◌*◌, ◌-◌, ◌≤◌}
 use native.Mathlib.Omega.{arith}
 use mathlib.Core.Path.{◌≡◌, refl, ap, ◌∙◌}
-use mathlib.Core.List.{List}
 use lib.ListN.{length, get_or, take, drop, length-drop}
 use lib.Seq.{take_all}
 use borrow.Author.Rules.{rules}
-use Rattle.paper.specs.declared.Input.{Input}
-use Rattle.paper.specs.RecordsIn.{message_size}
 use Rattle.paper.specs.RecordsOut.{size_out}
-use Rattle.paper.specs.Room.{frame_room_size}
 use Rattle.paper.proofs.Sizes.{size-within}
 use Rattle.replay_transcript.proofs.Laws.{kind_at}
-use Rattle.fates_book.specs.Lines.{line_at, lines_in}
+use Rattle.fates_book.specs.Lines.{line_at}
 use Rattle.fates_report.specs.Report.{line_text, per_byte}
-use Rattle.fates_report.proofs.Laws.{said_most, StillTelling, all_telling, less-telling, none_telling}
-use Rattle.fates_report.proofs.tell_records.Invariants.{ToTell}
+use Rattle.fates_report.proofs.Laws.{said_most, all_telling, less-telling, none_telling}
 use Rattle.fates_report.proofs.tell_records.Goals as goal
 
 pub loop-i-init : goal.loop-i-init

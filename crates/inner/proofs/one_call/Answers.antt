@@ -4,7 +4,6 @@ use Prim.Native.Nat.{ℕ, ◌/◌, ◌%◌}
 use native.Mathlib.Omega.{arith}
 use lib.Dec.{ltb}
 use lib.ListN.{replicate}
-use borrow.Author.Rules.{rules}
 use Rattle.paper.specs.Room.{frame_room_size}
 use Rattle.table_image.specs.Layout.{sound_image}
 use Rattle.call_outcomes.specs.Leaving.{Left, call_made}

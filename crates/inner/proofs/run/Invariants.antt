@@ -1,18 +1,12 @@
 -- What is still to come, from where the loop stands, leads to the same end: a call more, or none where no byte is left.
-use Prim.Native.Nat.{ℕ, ◌+◌, ◌≤◌, ◌-◌}
-use native.Mathlib.Omega.{arith}
-use mathlib.Core.Path.{◌≡◌, refl, ap, ◌∙◌}
-use mathlib.Core.Bool.{Bool, true}
+use Prim.Native.Nat.{ℕ, ◌≤◌, ◌-◌}
+use mathlib.Core.Path.{◌≡◌}
+use mathlib.Core.Bool.{true}
 use mathlib.Core.List.{List}
-use mathlib.Core.Logic.{⊎_elim}
-use lib.ListN.{length, take, drop, length-take, length-drop}
-use lib.Seq.{take_all}
-use borrow.Author.Rules.{rules}
-use Rattle.ledger.specs.Tally.{one_if}
-use Rattle.ledger.proofs.Tallies.{one_most}
+use lib.ListN.{length}
 use Rattle.table_image.specs.Layout.{sound_image}
 use Rattle.inner.specs.Run.{run_from}
-use Rattle.inner.proofs.Laws.{Ahead, ahead_more, ahead_none}
+use Rattle.inner.proofs.Laws.{Ahead}
 use Rattle.inner.proofs.run.Given as goal
 
 pub record Running (table₀ capture room₀ table room : List ℕ) (refused at : ℕ) : Type 0 where

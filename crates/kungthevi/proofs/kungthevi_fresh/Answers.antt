@@ -3,7 +3,6 @@ use mathlib.Core.Path.{ap}
 use borrow.Author.Tests.{eq-eqb, ne_eqb}
 use Rattle.ledger.specs.Choice.{◌⇒◌∣◌}
 use Rattle.call_outcomes.specs.Fresh.{made, fresh_of}
-use borrow.Author.Rules.{rules}
 use Rattle.kungthevi.proofs.kungthevi_fresh.Goals as goal
 
 pub returns-then-table-ne-IMAGE_SIZE : goal.returns-then-table-ne-IMAGE_SIZE

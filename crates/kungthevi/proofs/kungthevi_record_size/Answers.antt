@@ -1,6 +1,5 @@
 -- A record's size fits 32 bits.
 use native.Mathlib.Omega.{arith}
-use borrow.Author.Rules.{rules}
 use Rattle.paper.proofs.Records.{record_most}
 use Rattle.kungthevi.proofs.kungthevi_record_size.Goals as goal
 

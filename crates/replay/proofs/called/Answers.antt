@@ -1,6 +1,5 @@
 -- The turn counts what the call printed: where its text ends, and whether it was refused.
 use mathlib.Core.Path.{◌∙◌}
-use borrow.Author.Rules.{rules}
 use Rattle.turns.specs.Turns.{after_call}
 use Rattle.replay.proofs.called.Goals as goal
 

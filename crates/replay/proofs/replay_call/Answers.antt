@@ -5,7 +5,6 @@ use native.Mathlib.Omega.{arith}
 use mathlib.Core.Path.{◌≡◌, sym, ap, subst, ◌∙◌}
 use lib.Dec.{ltb}
 use lib.ListN.{take, replicate}
-use borrow.Author.Rules.{rules}
 use Rattle.octets.proofs.Writing.{wrote-same}
 use Rattle.paper.specs.Room.{frame_room_size}
 use Rattle.table_image.specs.Layout.{sound_image}

@@ -1,6 +1,5 @@
 -- The first test of the code is that of the definition, and the second is its answer.
 use borrow.Author.Tests.{eq-eqb, ne_eqb}
-use borrow.Author.Rules.{rules}
 use Rattle.turns.proofs.is_over.Goals as goal
 
 pub returns-then-t-eq0 : goal.returns-then-t-eq0

@@ -1,6 +1,5 @@
 -- A refused call counts one, any other none.
 use native.Mathlib.Omega.{arith}
-use borrow.Author.Rules.{rules}
 use Rattle.turns.proofs.one_more_if.Goals as goal
 
 pub returns-then-refused : goal.returns-then-refused

@@ -5,7 +5,6 @@ use native.Mathlib.Omega.{arith}
 use mathlib.Core.Path.{◌≡◌, ap, ◌∙◌}
 use mathlib.Core.List.{List}
 use lib.ListN.{length, take, drop, length-take, length-drop, replicate}
-use borrow.Author.Rules.{rules}
 use Rattle.octets.specs.Runs.{part, paste}
 use Rattle.octets.proofs.Runs.{paste_begins}
 use Rattle.paper.specs.RecordsIn.{pair_size}

@@ -1,6 +1,5 @@
 -- The one test of the code is that of the definition, and where it fails both do.
 use borrow.Author.Tests.{lt-ltb, le-ltb}
-use borrow.Author.Rules.{rules}
 use Rattle.paper.specs.RecordsIn.{pair_size}
 use Rattle.turns.proofs.waits.Goals as goal
 

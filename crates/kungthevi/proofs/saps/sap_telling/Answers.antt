@@ -1,7 +1,6 @@
 -- What is told is told of the exclusion that holds.
 use mathlib.Core.Path.{◌∙◌}
 use Rattle.paper.specs.Exclusions.{sap_telling}
-use borrow.Author.Rules.{rules}
 use Rattle.kungthevi.proofs.saps.sap_telling.Goals as goal
 
 pub returns : goal.returns

@@ -1,6 +1,5 @@
 -- By the answer's two cases; a byte's number fits where it is put.
 use Rattle.paper.specs.Exclusions.{telling_of}
-use borrow.Author.Rules.{rules}
 use Rattle.kungthevi.proofs.saps.telling_of.Goals as goal
 
 pub returns-in-By : goal.returns-in-By
