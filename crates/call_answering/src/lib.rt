@@ -1,5 +1,6 @@
 // A message: its state row, what the order of errors reads of the table, and what that comes to.
 #![tactic(auto)]
+
 ghost use Rattle.std.specs.Prelude.{◌≡◌, List, ℕ};
 ghost use Rattle.paper.specs.Messages.{code_in, asked_by};
 ghost use Rattle.paper.specs.StateRows.{state_rows};

@@ -1,5 +1,6 @@
 // What an effect leaves of the table: what becomes of its stream, and of the one that carries.
 #![tactic(auto)]
+
 ghost use Rattle.std.specs.Prelude.{◌≡◌};
 ghost use Rattle.paper.specs.Effects.{changed, carried};
 ghost use Rattle.table_image.specs.Layout.{table_of, image_of};

@@ -1,5 +1,6 @@
 // What was decided, concluded: an effect's records are written to the lent room, then the lent table is changed.
 #![tactic(auto)]
+
 ghost use Rattle.std.specs.Prelude.{◌≡◌, ◌+◌, ◌≤◌, length};
 ghost use Rattle.paper.specs.Base.{slot, mac_at};
 ghost use Rattle.paper.specs.RecordsOut.{up, bytes_of, unitdata_size, all_bytes};

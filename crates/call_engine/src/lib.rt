@@ -1,5 +1,6 @@
 // The call: it reads one record, decides by value what that comes to, and concludes it.
 #![tactic(auto)]
+
 ghost use Rattle.std.specs.Prelude.{◌≡◌, true};
 ghost use Rattle.paper.specs.RecordsIn.{message_in};
 ghost use Rattle.paper.specs.Room.{room_for};

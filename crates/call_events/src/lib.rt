@@ -1,5 +1,6 @@
 // What the line brings.
 #![tactic(auto)]
+
 ghost use Rattle.std.specs.Prelude.{◌≡◌, List, ℕ, take};
 ghost use Rattle.octets.specs.Runs.{same_bytes};
 ghost use Rattle.paper.specs.Base.{slot, mac_of, mac_size};

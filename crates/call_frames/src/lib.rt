@@ -1,5 +1,6 @@
 // A frame: each stream that it is shown to gets one indication with its M, in stream order.
 #![tactic(auto)]
+
 ghost use Rattle.std.specs.Prelude.{◌≡◌, take};
 ghost use Rattle.octets.specs.Runs.{same_bytes};
 ghost use Rattle.octets.specs.Writing.{WroteMost};

@@ -1,5 +1,6 @@
 // Adding a PPA, opening and closing.
 #![tactic(auto)]
+
 ghost use Rattle.std.specs.Prelude.{List, map, ◌≡◌, ℕ};
 ghost use Rattle.paper.specs.Base.{slot, waiting};
 ghost use Rattle.paper.specs.RecordsOut.{all_bytes};

@@ -1,5 +1,6 @@
 // What is decided of a call, and what it leaves in the bytes lent to it: see specs/.
 #![tactic(auto)]
+
 ghost use Rattle.std.specs.Prelude.{◌≡◌};
 ghost use Rattle.call_outcomes.specs.Leaving.{refusing};
 

@@ -1,6 +1,9 @@
 // Reads records on standard input and prints what became of each call that rang in: see docs/FATES.md.
+#![tactic(auto)]
+
 ghost use Rattle.fates.specs.Turns.{CallRoom, CallTold, Standing, AtTurn, AtCall, Called, Turned, Kept};
 
+use std::io::{Read, Write};
 use turns::Turn;
 
 // One call: its lines are entered in the register, and their text goes to the output from a place on.
@@ -59,7 +62,9 @@ fn turned(
     called(table, register, room, input, output, t)
 }
 
-fn one_turn(
+fn one_turn<R: Read, W: Write>(
+    reader: &mut R,
+    writer: &mut W,
     table: &mut [u8],
     register: &mut [u64],
     room: &mut [u8],
@@ -70,11 +75,11 @@ fn one_turn(
     requires { Standing table.old register.old room.old input.old output.old t }
     ensures { Kept table.new register.new result }
 {
-    let a = turns::fed(input, t);
+    let a = turns::fed(reader, input, t);
     if !a.going {
         return a;
     }
-    let b = turns::drained(output, a);
+    let b = turns::drained(writer, output, a);
     if !b.going {
         return b;
     }
@@ -82,7 +87,9 @@ fn one_turn(
 }
 
 // Turn after turn, until one says to stop; no more than 64 bits count.
-fn run(
+fn run<R: Read, W: Write>(
+    reader: &mut R,
+    writer: &mut W,
     table: &mut [u8],
     register: &mut [u64],
     room: &mut [u8],
@@ -99,7 +106,7 @@ fn run(
         if !t.going {
             return t;
         }
-        t = one_turn(table, register, room, input, output, t);
+        t = one_turn(reader, writer, table, register, room, input, output, t);
         left -= 1;
     }
     t
@@ -107,7 +114,9 @@ fn run(
 
 // Starts from a fresh table and a blank register, with the first line filled in. Where reading or writing failed there is no
 // last line, so that what was printed is not taken for the whole.
-fn main() {
+fn main(rt: HostRuntime) {
+    let mut reader = rt.stdin();
+    let mut writer = rt.stdout();
     let mut table = [0u8; table_image::IMAGE_SIZE];
     table_image::make_fresh(&mut table);
     let mut register = [0u64; fates_register::REGISTER_SIZE];
@@ -117,6 +126,8 @@ fn main() {
     let title = fates_report::put_heading(&mut output, 0);
     let first = turns::first_turn(title);
     let last = run(
+        &mut reader,
+        &mut writer,
         &mut table,
         &mut register,
         &mut room,
@@ -124,15 +135,15 @@ fn main() {
         &mut output,
         first,
     );
-    let d = turns::drained(&output, last);
+    let d = turns::drained(&mut writer, &output, last);
     let filled = d.filled;
     if d.failed {
-        io::write_all(1, &output[0..filled]);
-        io::write_all(2, b"fates: reading or writing failed\n");
+        let _ = writer.write_all(&output[0..filled]);
+        let _ = rt.stderr().write_all(b"fates: reading or writing failed\n");
         return;
     }
     let end = fates_report::put_closing(&mut output, filled, &register);
-    if !io::write_all(1, &output[0..end]) {
-        io::write_all(2, b"fates: reading or writing failed\n");
+    if writer.write_all(&output[0..end]).is_err() {
+        let _ = rt.stderr().write_all(b"fates: reading or writing failed\n");
     }
 }

@@ -1,5 +1,6 @@
 // What the records of a history say of connection indications, line by line. What each means stands in specs/.
 #![tactic(auto)]
+
 ghost use Rattle.std.specs.Prelude.{◌≡◌};
 ghost use Rattle.fates_book.specs.Lines.{asker, parting, end_line, up_line, line_at};
 

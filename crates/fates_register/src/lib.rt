@@ -1,5 +1,6 @@
 // The register of indications: what it keeps stands in specs/.
 #![tactic(auto)]
+
 ghost use Rattle.std.specs.Prelude.{◌≡◌, ◌+◌, ◌*◌, ◌<◌, eqb, ltb, length, get_or};
 ghost use Rattle.ledger.specs.Choice.{both};
 ghost use Rattle.fates_book.specs.Book.{count_of};

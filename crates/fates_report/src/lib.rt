@@ -1,5 +1,6 @@
 // What fates prints, from the register of indications: see docs/FATES.md. Each writer answers with the place behind.
 #![tactic(auto)]
+
 ghost use Rattle.std.specs.Prelude.{◌≡◌, ◌+◌, ◌*◌, ◌≤◌, length};
 ghost use Rattle.octets.specs.Writing.{Wrote, WroteMost};
 ghost use Rattle.paper.specs.Base.{stream_total};

@@ -1,6 +1,7 @@
 // Calls without the test of soundness, for measuring them beside the others: a run over a whole capture, from a fresh table.
 // No part of the library for C.
 #![tactic(auto)]
+
 ghost use Rattle.std.specs.Prelude.{◌≡◌, ◌<◌, length};
 ghost use Rattle.inner.specs.Run.{ran, CallRoom, Called, Passed, run_from, run_of};
 

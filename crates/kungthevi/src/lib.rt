@@ -1,5 +1,6 @@
 // The C face: numbers and byte slices only, and nothing asked of the caller. A slice is a pointer and a length.
 #![tactic(auto)]
+
 mod saps;
 
 ghost use Rattle.std.specs.Prelude.{◌≡◌};

@@ -1,1 +1,3 @@
+#![tactic(auto)]
+
 // Choices and counts, as definitions alone: see specs/.

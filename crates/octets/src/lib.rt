@@ -1,5 +1,6 @@
 // Numbers and runs of bytes in slices: reading, writing, blocks of fields, tests of runs.
 #![tactic(auto)]
+
 ghost use Rattle.std.specs.Prelude.{◌≡◌, ◌++◌, ◌+◌, ◌*◌, ◌≤◌, length, get_or};
 ghost use Rattle.octets.specs.Numbers.{be16_at, be32_at, be16, be32};
 ghost use Rattle.octets.specs.Runs.{farthest, part, paste, all_zero, same_bytes};

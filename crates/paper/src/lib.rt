@@ -1,5 +1,6 @@
 // The rule paper's quantities, states, requests, rules, state rows, effects and records, as values. What each means stands in specs/.
 #![tactic(auto)]
+
 mod addresses;
 mod kinds;
 mod states;

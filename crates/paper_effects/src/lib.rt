@@ -1,5 +1,6 @@
 // What a service or an event does, by value.
 #![tactic(auto)]
+
 ghost use Rattle.std.specs.Prelude.{◌≡◌};
 ghost use Rattle.paper.specs.ErrorCodes.{complaint_of, reply_by};
 ghost use Rattle.paper.specs.Effects.{next, onward, unchanged, more, less, bound_in, acting, error_effect, ok, no_number, accepting, effect_of, event_effect};

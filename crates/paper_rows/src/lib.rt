@@ -1,6 +1,7 @@
 // The state rows in code, and a stream's row for what comes. No list is walked, and none is held: what comes leads to its row,
 // or, where it has several, the state and the mode lead to the one that can be meant; that row's state and mode are tested.
 #![tactic(auto)]
+
 ghost use Rattle.std.specs.Prelude.{◌≡◌, [], ◌∷◌, map, ℕ};
 ghost use Rattle.paper.specs.Base.{number};
 ghost use Rattle.paper.specs.StateRows.{stays, seats, state_rows, frame_arrives, found_in, found, is_found};

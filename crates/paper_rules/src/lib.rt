@@ -1,6 +1,7 @@
 // The order of errors by value: what it asks of the table is handed to it; the SAP test; and a stream by value, as it stands after a
 // row.
 #![tactic(auto)]
+
 mod datagrams;
 mod errors;
 mod exclusions;

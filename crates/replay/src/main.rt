@@ -1,6 +1,9 @@
 // Reads records on standard input and prints what the rule paper says of each call: see crates/replay_transcript.
+#![tactic(auto)]
+
 ghost use Rattle.replay.specs.Printed.{CallRoom, Replayed, Standing, AtTurn, AtCall, Called, Turned, Kept};
 
+use std::io::{Read, Write};
 use turns::Turn;
 
 // A call that was made and printed: where its text ends, and whether it was refused.
@@ -63,15 +66,23 @@ fn turned(table: &mut [u8], room: &mut [u8], input: &[u8], output: &mut [u8], t:
     called(table, room, input, output, t)
 }
 
-fn one_turn(table: &mut [u8], room: &mut [u8], input: &mut [u8], output: &mut [u8], t: Turn) -> Turn
+fn one_turn<R: Read, W: Write>(
+    reader: &mut R,
+    writer: &mut W,
+    table: &mut [u8],
+    room: &mut [u8],
+    input: &mut [u8],
+    output: &mut [u8],
+    t: Turn,
+) -> Turn
     requires { Standing table.old room.old input.old output.old t }
     ensures { Kept table.new result }
 {
-    let a = turns::fed(input, t);
+    let a = turns::fed(reader, input, t);
     if !a.going {
         return a;
     }
-    let b = turns::drained(output, a);
+    let b = turns::drained(writer, output, a);
     if !b.going {
         return b;
     }
@@ -79,7 +90,15 @@ fn one_turn(table: &mut [u8], room: &mut [u8], input: &mut [u8], output: &mut [u
 }
 
 // Turn after turn, until one says to stop; no more than 64 bits count.
-fn run(table: &mut [u8], room: &mut [u8], input: &mut [u8], output: &mut [u8], t0: Turn) -> Turn
+fn run<R: Read, W: Write>(
+    reader: &mut R,
+    writer: &mut W,
+    table: &mut [u8],
+    room: &mut [u8],
+    input: &mut [u8],
+    output: &mut [u8],
+    t0: Turn,
+) -> Turn
     requires { Standing table.old room.old input.old output.old t0 }
     ensures { Kept table.new result }
 {
@@ -89,7 +108,7 @@ fn run(table: &mut [u8], room: &mut [u8], input: &mut [u8], output: &mut [u8], t
         if !t.going {
             return t;
         }
-        t = one_turn(table, room, input, output, t);
+        t = one_turn(reader, writer, table, room, input, output, t);
         left -= 1;
     }
     t
@@ -97,7 +116,9 @@ fn run(table: &mut [u8], room: &mut [u8], input: &mut [u8], output: &mut [u8], t
 
 // Starts from a fresh table with the first line filled in. Where reading or writing failed there is no last line, so that
 // what was printed is not taken for the whole.
-fn main() {
+fn main(rt: HostRuntime) {
+    let mut reader = rt.stdin();
+    let mut writer = rt.stdout();
     let mut table = [0u8; table_image::IMAGE_SIZE];
     table_image::make_fresh(&mut table);
     let mut room = [0u8; paper::FRAME_ROOM_SIZE];
@@ -105,16 +126,28 @@ fn main() {
     let mut output = turns::buffer();
     let title = replay_transcript::put_title(&mut output, 0);
     let first = turns::first_turn(title);
-    let last = run(&mut table, &mut room, &mut input, &mut output, first);
-    let d = turns::drained(&output, last);
+    let last = run(
+        &mut reader,
+        &mut writer,
+        &mut table,
+        &mut room,
+        &mut input,
+        &mut output,
+        first,
+    );
+    let d = turns::drained(&mut writer, &output, last);
     let filled = d.filled;
     if d.failed {
-        io::write_all(1, &output[0..filled]);
-        io::write_all(2, b"replay: reading or writing failed\n");
+        let _ = writer.write_all(&output[0..filled]);
+        let _ = rt
+            .stderr()
+            .write_all(b"replay: reading or writing failed\n");
         return;
     }
     let end = replay_transcript::put_totals(&mut output, filled, d.calls, d.refused);
-    if !io::write_all(1, &output[0..end]) {
-        io::write_all(2, b"replay: reading or writing failed\n");
+    if writer.write_all(&output[0..end]).is_err() {
+        let _ = rt
+            .stderr()
+            .write_all(b"replay: reading or writing failed\n");
     }
 }

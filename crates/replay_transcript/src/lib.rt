@@ -1,5 +1,6 @@
 // What the replay program prints: a line for each record out of a call, the first line and the last.
 #![tactic(auto)]
+
 ghost use Rattle.std.specs.Prelude.{◌≡◌, ◌+◌, ◌≤◌, length, take};
 ghost use Rattle.octets.specs.Writing.{Wrote, WroteMost};
 ghost use Rattle.paper.specs.Room.{frame_room_size};

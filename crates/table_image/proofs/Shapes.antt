@@ -8,7 +8,7 @@ use lib.Dec.{eqb}
 use mathlib.Core.Bool.{true}
 use Rattle.octets.specs.Blocks.{flat}
 use Rattle.octets.proofs.Blocks.{flat-length, pad-length}
-use Rattle.paper.specs.Base.{Slot, Table, slot, waiting, closed, no_ppa, with_slot, with_stream, with_numbers, with_counter, mac_of, stream_total, mac_size, stream}
+use Rattle.paper.specs.Base.{Slot, Table, slot, waiting, closed, no_ppa, with_slot, with_stream, with_numbers, with_counter, mac_of, stream_total, mac_size}
 use Rattle.paper.specs.declared.Stream.{Stream}
 use Rattle.paper.specs.declared.Ppa.{Ppa}
 use Rattle.paper.specs.declared.PpaNumber.{PpaNumber}

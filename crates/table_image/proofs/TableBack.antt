@@ -13,7 +13,7 @@ use Rattle.ledger.proofs.Lists.{listed_at, listed_back}
 use Rattle.octets.specs.Numbers.{be32_at, be32}
 use Rattle.octets.specs.Blocks.{flat}
 use Rattle.octets.proofs.Numbers.{be16_at-be16, be32_at-be32, be32_at-part}
-use Rattle.paper.specs.Base.{Slot, Table, slot, closed, no_ppa, stream_total, mac_size, stream, waiting}
+use Rattle.paper.specs.Base.{Slot, Table, slot, closed, no_ppa, stream_total, mac_size}
 use Rattle.paper.specs.declared.Stream.{Stream}
 use Rattle.paper.specs.declared.Ppa.{Ppa}
 use Rattle.paper.proofs.StateNumbers.{state_back}

@@ -14,7 +14,7 @@ use Rattle.ledger.proofs.Lists.{listed-length, listed_at, each-listed}
 use Rattle.octets.specs.Numbers.{be32_at}
 use Rattle.octets.specs.Runs.{part, all_zero, are_bytes}
 use Rattle.octets.proofs.Runs.{part_length, of_are_bytes}
-use Rattle.paper.specs.Base.{Slot, closed, no_ppa, stream_total, most_ppas, mac_size, waiting}
+use Rattle.paper.specs.Base.{Slot, closed, no_ppa, stream_total, most_ppas, mac_size}
 use Rattle.paper.specs.declared.Ppa.{Ppa}
 use Rattle.table_image.specs.Layout.{image_size, ppa_base, ppa_from, waiting_from, slot_at, ppa_at, table_of, is_state, tidy_slot, slot_parts}
 use Rattle.table_image.specs.Layout.{tidy_ppas, tidy, memory_offset, ppa_count_offset, place_size, places_size, state_offset, count_offset}

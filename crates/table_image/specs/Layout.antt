@@ -6,7 +6,7 @@ use Rattle.ledger.specs.Lists.{listed, joined}
 use Rattle.octets.specs.Numbers.{be16_at, be32_at, be16, be32}
 use Rattle.octets.specs.Runs.{part, all_zero, are_bytes}
 use Rattle.octets.specs.Blocks.{flat, pad_to}
-use Rattle.paper.specs.Base.{number_of, state_of, stream_total, most_ppas, mac_size, Slot, Table, every_state, stream, waiting}
+use Rattle.paper.specs.Base.{number_of, state_of, stream_total, most_ppas, mac_size, Slot, Table, every_state}
 use Rattle.paper.specs.Saps.{most_open}
 use Rattle.paper.specs.Sound.{sound}
 use Rattle.paper.specs.declared.Stream.{Stream}

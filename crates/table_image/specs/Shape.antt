@@ -1,6 +1,6 @@
 -- The shape of a table, whatever its numbers: what an image has room for.
 use Rattle.std.specs.Prelude.{ℕ, ◌≤◌, ◌≡◌, length, get_or}
-use Rattle.paper.specs.Base.{stream_total, most_ppas, mac_size, Table, slot, no_ppa, waiting}
+use Rattle.paper.specs.Base.{stream_total, most_ppas, mac_size, Table, slot, no_ppa}
 use Rattle.paper.specs.Saps.{most_open}
 
 -- 16 streams with at most 8 open numbers each, and at most 8 PPAs, each with a MAC of 6 bytes

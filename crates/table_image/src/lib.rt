@@ -1,5 +1,6 @@
 // The table as a lent image: see specs/ for its layout and proofs/ for its laws.
 #![tactic(auto)]
+
 ghost use Rattle.std.specs.Prelude.{not, ◌≡◌, ◌+◌, ◌-◌, ◌^◌, length};
 ghost use Rattle.ledger.specs.Tally.{one_if, sum_of};
 ghost use Rattle.paper.specs.Base.{Slot, fresh, slot, stream, waiting, closed, just_opened, lowest_free, with_slot, with_stream, with_counter, with_ppa, remembering};

@@ -1,5 +1,6 @@
 // What is asked of the PPAs and of the other streams.
 #![tactic(auto)]
+
 ghost use Rattle.std.specs.Prelude.{◌≡◌, suc, eqb, get_or};
 ghost use Rattle.ledger.specs.Choice.{either};
 ghost use Rattle.octets.specs.Runs.{same_bytes};

@@ -1,5 +1,6 @@
 // The open numbers of the streams: reading, counting, all in a row, the next number, one more, one less.
 #![tactic(auto)]
+
 ghost use Rattle.std.specs.Prelude.{◌≡◌, suc, ◌+◌, [], ◌∷◌, ◌++◌, length, take, drop, nat_eq, slice_index};
 ghost use Rattle.ledger.specs.Tally.{occ, has, without, first_of, free};
 ghost use Rattle.octets.specs.Runs.{paste};

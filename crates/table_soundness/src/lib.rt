@@ -1,5 +1,6 @@
 // Refusal 16: whether a lent image is the image of a sound table, tested where it lies.
 #![tactic(auto)]
+
 ghost use Rattle.std.specs.Prelude.{◌≡◌, ℕ, ◌≤◌, length, get_or, leb};
 ghost use Rattle.ledger.specs.Tally.{one_if, occ, all_of};
 ghost use Rattle.paper.specs.Base.{slot, stream, ppa_numbers};

@@ -1,5 +1,6 @@
 // Text in bytes, from a place of a buffer on: numbers in decimal, bytes in hex. Each writer answers with the place behind.
 #![tactic(auto)]
+
 ghost use Rattle.std.specs.Prelude.{◌≡◌, ◌+◌, ◌*◌, ◌<◌, ◌≤◌, length};
 ghost use Rattle.octets.specs.Writing.{Wrote, WroteMost};
 ghost use Rattle.text.specs.Digits.{most_digits, digit, decimal, DigitsFrom, hex};

@@ -1,9 +1,13 @@
-// Where a program stands that reads records on standard input and prints a text for each call; how it reads on and writes out.
+// Where a program stands that reads records on its input and prints a text for each call; how it reads on and writes out.
+#![tactic(auto)]
+
 ghost use Rattle.std.specs.Prelude.{◌≡◌, ◌+◌, ◌<◌, ◌≤◌, length};
 ghost use Rattle.ledger.specs.Tally.{one_if};
 ghost use Rattle.octets.specs.Runs.{part, paste};
 ghost use Rattle.turns.specs.Turns.{buffer_size, most_calls, first_turn, waits, is_over, stopping, after_call};
 ghost use Rattle.turns.specs.Turns.{Ready, FineAs, Buffer, CallMade, Rest, Fed, Drained};
+
+use std::io::{Read, Write};
 
 // A buffer of the program.
 const BUFFER_SIZE: usize = 163840;
@@ -61,7 +65,7 @@ fn shift(buf: &mut [u8], from: usize, n: usize)
 }
 
 // More input, where a record may be cut: what is left goes to the front, and one read follows it.
-pub fn fed(input: &mut [u8], t: Turn) -> Turn
+pub fn fed<R: Read>(reader: &mut R, input: &mut [u8], t: Turn) -> Turn
     requires { Buffer input.old t }
     ensures { Fed input.old t input.new result }
 {
@@ -71,22 +75,32 @@ pub fn fed(input: &mut [u8], t: Turn) -> Turn
         return t;
     }
     shift(input, start, left);
-    let got = libc::read(0, &mut input[left..]);
-    let more = io::count(got, &input[left..]);
-    Turn {
-        start: 0,
-        end: left + more,
-        ended: more == 0,
-        filled: t.filled,
-        calls: t.calls,
-        refused: t.refused,
-        going: 0 <= got,
-        failed: got < 0,
+    match reader.read(&mut input[left..]) {
+        Ok(more) => Turn {
+            start: 0,
+            end: left + more,
+            ended: more == 0,
+            filled: t.filled,
+            calls: t.calls,
+            refused: t.refused,
+            going: true,
+            failed: false,
+        },
+        Err(_) => Turn {
+            start: 0,
+            end: left,
+            ended: true,
+            filled: t.filled,
+            calls: t.calls,
+            refused: t.refused,
+            going: false,
+            failed: true,
+        },
     }
 }
 
 // Output to be written, where little room is left.
-pub fn drained(output: &[u8], t: Turn) -> Turn
+pub fn drained<W: Write>(writer: &mut W, output: &[u8], t: Turn) -> Turn
     requires { Buffer output.now t }
     ensures { Drained t result }
 {
@@ -94,7 +108,7 @@ pub fn drained(output: &[u8], t: Turn) -> Turn
     if filled <= MOST_WAITING {
         return t;
     }
-    let written = io::write_all(1, &output[0..filled]);
+    let written = writer.write_all(&output[0..filled]).is_ok();
     Turn {
         start: t.start,
         end: t.end,

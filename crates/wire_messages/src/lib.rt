@@ -1,5 +1,6 @@
 // Messages from a user, from bytes to requests.
 #![tactic(auto)]
+
 ghost use Rattle.std.specs.Prelude.{◌≡◌, ◌≤◌, length};
 ghost use Rattle.octets.specs.Runs.{part};
 ghost use Rattle.octets.specs.Blocks.{block_size};

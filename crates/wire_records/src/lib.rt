@@ -1,5 +1,6 @@
 // Records in, from bytes to values.
 #![tactic(auto)]
+
 ghost use Rattle.std.specs.Prelude.{◌≡◌, ◌+◌, ◌≤◌, length, get_or, ltb, eqb};
 ghost use Rattle.ledger.specs.Choice.{either};
 ghost use Rattle.paper.specs.Base.{address_size, most_address};

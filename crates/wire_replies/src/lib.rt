@@ -1,5 +1,6 @@
 // The records out, each written at the start of a lent room.
 #![tactic(auto)]
+
 ghost use Rattle.std.specs.Prelude.{◌≡◌, true, [], ◌∷◌, ◌++◌, ◌+◌, ◌≤◌, length};
 ghost use Rattle.ledger.specs.Choice.{pick};
 ghost use Rattle.octets.specs.Blocks.{flat, pad, pad_to};

@@ -22,8 +22,8 @@ unfolding carried
 returns-else-carries c =
     let t = table_of c.args.img.now in
     elim c.else-carries.branch [
-      else-carries-via-then-carries+else-c-lt-STREAM_TOTAL w ↦
-      rw w.if-carries.true
-      (sym (ap image_of (none_past t c.requires.shaped c.args.c _ w.if-c-lt-STREAM_TOTAL.false) ∙ c.requires.same))
+      | else-carries-via-then-carries+else-c-lt-STREAM_TOTAL w ↦
+          rw w.if-carries.true
+          (sym (ap image_of (none_past t c.requires.shaped c.args.c _ w.if-c-lt-STREAM_TOTAL.false) ∙ c.requires.same))
       | else-carries-via-else-carries w ↦ rw w.if-carries.false (sym c.requires.same)
     ]

@@ -2,7 +2,6 @@
 use borrow.Author.Tests.{eq-eqb, ne_eqb}
 use Rattle.ledger.specs.Choice.{◌⇒◌∣◌}
 use Rattle.fates_book.specs.Lines.{line_at}
-use borrow.Author.Rules.{rules}
 use Rattle.fates_book.proofs.line_at.Goals as goal
 
 pub returns-then-kind-eq97 : goal.returns-then-kind-eq97

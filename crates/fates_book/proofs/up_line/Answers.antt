@@ -2,7 +2,6 @@
 use borrow.Author.Tests.{eq-eqb, ne_eqb}
 use Rattle.ledger.specs.Choice.{◌⇒◌∣◌}
 use Rattle.fates_book.specs.Lines.{up_line}
-use borrow.Author.Rules.{rules}
 use Rattle.fates_book.proofs.up_line.Goals as goal
 
 pub returns-then-code-eq4 : goal.returns-then-code-eq4

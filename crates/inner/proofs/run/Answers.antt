@@ -41,7 +41,7 @@ loop-at-preserved c =
     let size = c.passed-at.ensures in
     let flag : c.if-one_call.refused ≡ l.refused + one_if call.result =
     elim c.if-one_call.branch [
-      then-one_call w ↦ rw (w.if-one_call.true, w.refused-is) (omega arith)
+      | then-one_call w ↦ rw (w.if-one_call.true, w.refused-is) (omega arith)
       | else-one_call w ↦ rw (w.if-one_call.false, w.refused-is) (omega arith)
     ] in
     let count = flag ∙ ap (λ (b : Bool). l.refused + one_if b) call.ensures.told in

@@ -1,16 +1,15 @@
 -- After i turns the block holds the first i fields, and zeros behind them.
 use borrow.Author.Rules.{rules}
 use native.Mathlib.Omega.{arith}
-use Prim.Native.Nat.{ℕ, ◌≤◌, ◌-◌, ◌*◌}
+use Prim.Native.Nat.{ℕ, ◌*◌}
 use mathlib.Core.List.{List}
-use mathlib.Core.Path.{◌≡◌, ap, ◌∙◌}
-use lib.ListN.{length, get_or, take}
+use mathlib.Core.Path.{ap, ◌∙◌}
+use lib.ListN.{get_or}
 use lib.Seq.{take_all}
 use Rattle.octets.specs.Numbers.{be32}
-use Rattle.octets.specs.Blocks.{flat, block_size, pad}
+use Rattle.octets.specs.Blocks.{flat, pad}
 use Rattle.octets.proofs.Runs.{paste-length}
 use Rattle.octets.proofs.Blocks.{flat-more}
-use Rattle.octets.proofs.block_of.Invariants.{Holds}
 use Rattle.octets.proofs.block_of.Goals as goal
 
 pub loop-i-preserved : goal.loop-i-preserved

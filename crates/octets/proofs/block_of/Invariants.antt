@@ -1,15 +1,9 @@
 -- After i turns the block holds the first i fields, and zeros behind them.
-use borrow.Author.Rules.{rules}
-use native.Mathlib.Omega.{arith}
-use Prim.Native.Nat.{ℕ, ◌≤◌, ◌-◌, ◌*◌}
+use Prim.Native.Nat.{ℕ, ◌≤◌, ◌-◌}
 use mathlib.Core.List.{List}
-use mathlib.Core.Path.{◌≡◌, ap, ◌∙◌}
-use lib.ListN.{length, get_or, take}
-use lib.Seq.{take_all}
-use Rattle.octets.specs.Numbers.{be32}
+use mathlib.Core.Path.{◌≡◌}
+use lib.ListN.{length, take}
 use Rattle.octets.specs.Blocks.{flat, block_size, pad}
-use Rattle.octets.proofs.Runs.{paste-length}
-use Rattle.octets.proofs.Blocks.{flat-more}
 use Rattle.octets.proofs.block_of.Given as goal
 
 -- a block that holds the first i fields

@@ -1,5 +1,4 @@
 -- The tail goes over the zeros right behind the fields.
-use borrow.Author.Rules.{rules}
 use native.Mathlib.Omega.{arith}
 use Prim.Native.Nat.{◌*◌}
 use lib.ListN.{length}

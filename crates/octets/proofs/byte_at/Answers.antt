@@ -1,7 +1,6 @@
 -- Past the end there is no byte, and `get_or` gives 0 there.
 use mathlib.Core.Path.{sym}
 use lib.ListN.{get_or-eq_default}
-use borrow.Author.Rules.{rules}
 use Rattle.octets.proofs.byte_at.Goals as goal
 
 pub returns : goal.returns

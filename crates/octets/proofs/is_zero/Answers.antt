@@ -1,11 +1,8 @@
 -- After i turns `any` is 0 exactly if the first i bytes are.
 use borrow.Author.Rules.{rules}
-use Prim.Native.Nat.{◌≤◌, ◌-◌}
-use mathlib.Core.Bool.{◌&&◌, and-true}
-use mathlib.Core.Path.{◌≡◌, refl, ◌∙◌}
-use lib.Dec.{eqb}
-use lib.ListN.{length, drop, drop_of_length-le}
-use Rattle.octets.specs.Runs.{all_zero}
+use mathlib.Core.Bool.{and-true}
+use mathlib.Core.Path.{refl, ◌∙◌}
+use lib.ListN.{drop_of_length-le}
 use Rattle.octets.proofs.Runs.{zero_more}
 use Rattle.octets.proofs.is_zero.Goals as goal
 

@@ -2,12 +2,9 @@
 use borrow.Author.Rules.{rules}
 use native.Mathlib.Omega.{arith}
 use native.Mathlib.Numerals.{add-one}
-use Prim.Native.Nat.{ℕ, ◌≤◌, ◌-◌}
 use mathlib.Core.Path.{◌≡◌, ◌∙◌}
-use mathlib.Core.List.{List}
 use lib.ListN.{length, length-set}
-use lib.Seq.{paste, paste-zero, paste-suc, take-length}
-use Rattle.octets.proofs.put_bytes.Invariants.{Over}
+use lib.Seq.{paste-zero, paste-suc, take-length}
 use Rattle.octets.proofs.put_bytes.Goals as goal
 
 pub loop-i-init : goal.loop-i-init

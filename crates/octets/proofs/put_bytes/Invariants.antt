@@ -1,12 +1,9 @@
 -- After i turns the first i bytes of src stand over dst from the place on.
-use borrow.Author.Rules.{rules}
-use native.Mathlib.Omega.{arith}
-use native.Mathlib.Numerals.{add-one}
 use Prim.Native.Nat.{ℕ, ◌≤◌, ◌-◌}
-use mathlib.Core.Path.{◌≡◌, ◌∙◌}
+use mathlib.Core.Path.{◌≡◌}
 use mathlib.Core.List.{List}
-use lib.ListN.{length, length-set}
-use lib.Seq.{paste, paste-zero, paste-suc, take-length}
+use lib.ListN.{length}
+use lib.Seq.{paste}
 use Rattle.octets.proofs.put_bytes.Given as goal
 
 -- the first i bytes of s stand over b₀

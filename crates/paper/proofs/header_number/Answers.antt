@@ -1,5 +1,4 @@
 -- With the state known, so is its number in the manual's table, and for that number document 02's list is computed.
-use borrow.Author.Rules.{rules}
 use Rattle.ledger.specs.Choice.{◌⇒◌∣◌}
 use Rattle.paper.specs.Base.{header_number}
 use Rattle.paper.proofs.header_number.Goals as goal

@@ -1,5 +1,4 @@
 -- With the event known, the list comes down to the rows of its letter, and the state to one of them.
-use borrow.Author.Rules.{rules}
 use Rattle.ledger.proofs.Tallies.{differs}
 use Rattle.paper_rows.proofs.event_course.Goals as goal
 

@@ -1,7 +1,6 @@
 -- The course is that of the one row that the list can have for what comes.
 use mathlib.Core.Path.{◌∙◌}
 use Rattle.paper.specs.StateRows.{found}
-use borrow.Author.Rules.{rules}
 use Rattle.paper_rows.proofs.event_row.Goals as goal
 
 pub returns : goal.returns

@@ -1,6 +1,5 @@
 -- With the request known, the list comes down to the rows of its code, and the state to one of them.
 use Rattle.ledger.proofs.Tallies.{both_none, differs}
-use borrow.Author.Rules.{rules}
 use Rattle.paper_rows.proofs.request_course.Goals as goal
 
 pub returns-then-mode-eq1 : goal.returns-then-mode-eq1

@@ -1,6 +1,5 @@
 -- A course with its cause is a row, which is tested for the stream's state and mode.
 use mathlib.Core.Path.{◌∙◌}
-use borrow.Author.Rules.{rules}
 use Rattle.paper_rows.proofs.row_along.Goals as goal
 
 pub returns-in-Leads : goal.returns-in-Leads

@@ -6,7 +6,6 @@ use lib.Dec.{eqb}
 use borrow.Author.Tests.{ne_eqb}
 use Rattle.ledger.proofs.Tallies.{by_same, differs}
 use Rattle.paper.specs.StateRows.{frame_arrives, seat, stays, found_in, found, is_found}
-use borrow.Author.Rules.{rules}
 use Rattle.paper_rows.proofs.takes_frames.Goals as goal
 
 in-six : (mode : ℕ) → eqb mode 2 ≡ is_found (found_in (stays frame_arrives (seat 6 2) ∷ []) 6 mode frame_arrives)

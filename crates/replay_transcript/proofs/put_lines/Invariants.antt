@@ -1,20 +1,13 @@
 -- Each turn writes the line of the record where the turn begins, and goes on behind it: what is still unwritten leads, from where
 -- the writing stands, to the same text. A line takes so much for each byte of its record, so those of a room's records fit.
-use Prim.Native.Nat.{ℕ, zero, suc, ◌+◌, ◌*◌, ◌-◌, ◌≤◌, ◌<◌}
-use native.Mathlib.Omega.{arith}
-use mathlib.Core.List.{List, ◌++◌}
-use borrow.Author.Rules.{rules}
-use mathlib.Core.Path.{◌≡◌, refl, ap}
-use lib.ListN.{length, get_or, take, drop, length-drop}
-use lib.Seq.{take_all}
-use Rattle.octets.specs.Writing.{Wrote}
-use Rattle.octets.proofs.Writing.{Unwritten, all_unwritten, less_unwritten, none_unwritten, wrote-most, wrote_of}
+use Prim.Native.Nat.{ℕ, ◌+◌, ◌*◌, ◌-◌, ◌≤◌, ◌<◌}
+use mathlib.Core.List.{List}
+use mathlib.Core.Path.{◌≡◌}
+use lib.ListN.{length, drop}
+use Rattle.octets.proofs.Writing.{Unwritten}
 use Rattle.paper.specs.RecordsIn.{message_size}
-use Rattle.paper.specs.RecordsOut.{size_out}
 use Rattle.paper.specs.Room.{frame_room_size}
-use Rattle.paper.proofs.Sizes.{size-within}
-use Rattle.replay_transcript.specs.Transcript.{record_line, record_lines, all_lines, per_byte}
-use Rattle.replay_transcript.proofs.Laws.{kind_at, lines_end, lines_next}
+use Rattle.replay_transcript.specs.Transcript.{record_lines, all_lines, per_byte}
 use Rattle.replay_transcript.proofs.put_lines.Given as goal
 
 -- k lines at most are unwritten, behind e, of the bytes from i on

@@ -1,6 +1,5 @@
 -- The kind is the first byte, so the test of the code is that of the definition, and each way takes the same part of the record.
 use native.Mathlib.Omega.{arith}
-use borrow.Author.Rules.{rules}
 use Rattle.ledger.specs.Choice.{◌⇒◌∣◌}
 use Rattle.replay_transcript.specs.Transcript.{shown_of}
 use Rattle.paper.proofs.Sizes.{size-within}

@@ -5,7 +5,6 @@ use mathlib.Core.Path.{sym, ◌∙◌}
 use lib.ListN.{length}
 use lib.Seq.{take_all}
 use native.Mathlib.Nat.{sub-zero}
-use borrow.Author.Rules.{rules}
 use Rattle.replay_transcript.proofs.start_of.Goals as goal
 
 pub returns-then-size-n : goal.returns-then-size-n

@@ -10,7 +10,6 @@ use Rattle.octets.specs.Runs.{paste}
 use Rattle.table_image.specs.Layout.{slot_base, bit, table_of, mask_offset, slot_size}
 use Rattle.table_image.proofs.Lending.{mask_lent, bit-lent}
 use Rattle.table_image.proofs.Stored.{store_closing}
-use borrow.Author.Rules.{rules}
 use Rattle.table_image.proofs.close_slot.Goals as goal
 
 pub mask_with-m-requires : goal.mask_with-m-requires

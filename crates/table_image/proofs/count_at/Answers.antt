@@ -5,10 +5,9 @@ use native.Mathlib.Omega.{arith}
 use lib.ListN.{length, get_or}
 use Rattle.octets.specs.Numbers.{be32_at}
 use Rattle.octets.proofs.Runs.{part_byte}
-use Rattle.paper.specs.Base.{Slot, waiting}
+use Rattle.paper.specs.Base.{Slot}
 use Rattle.table_image.specs.Layout.{slot_base, waiting_from, slot_at, count_offset, slot_size, number_base, slot_part}
 use Rattle.table_image.proofs.TableBack.{slot-at}
-use borrow.Author.Rules.{rules}
 use Rattle.ledger.proofs.Lists.{listed-length}
 use Rattle.table_image.proofs.count_at.Goals as goal
 

@@ -1,6 +1,5 @@
 -- The counter is read where the layout has it.
 use Rattle.table_image.specs.Layout.{table_of}
-use borrow.Author.Rules.{rules}
 use Rattle.table_image.proofs.counter.Goals as goal
 
 pub returns : goal.returns

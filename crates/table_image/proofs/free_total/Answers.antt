@@ -4,7 +4,6 @@ use lib.Count.{ones}
 use Rattle.table_image.specs.Layout.{table_of}
 use Rattle.table_image.proofs.Bits.{free_total}
 use Rattle.table_image.proofs.Lending.{mask_lent}
-use borrow.Author.Rules.{rules}
 use Rattle.table_image.proofs.free_total.Goals as goal
 
 pub returns : goal.returns

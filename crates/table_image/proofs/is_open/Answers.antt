@@ -6,7 +6,6 @@ use lib.ListN.{get_or-eq_default}
 use Rattle.paper.specs.Base.{Slot, closed}
 use Rattle.table_image.specs.Layout.{bit, slot_at, table_of}
 use Rattle.table_image.proofs.TableBack.{slot-at}
-use borrow.Author.Rules.{rules}
 use Rattle.table_image.proofs.is_open.Goals as goal
 
 pub returns-then-i-lt-STREAM_TOTAL : goal.returns-then-i-lt-STREAM_TOTAL

@@ -1,10 +1,9 @@
 -- The bytes that are handed on are those of the stream's slot.
 use mathlib.Core.Path.{sym, ap}
 use native.Mathlib.Nat.{add-sub_cancel_left}
-use Rattle.paper.specs.Base.{Slot, stream}
+use Rattle.paper.specs.Base.{Slot}
 use Rattle.table_image.specs.Layout.{slot_at}
 use Rattle.table_image.proofs.TableBack.{slot-at}
-use borrow.Author.Rules.{rules}
 use Rattle.table_image.proofs.load_stream.Goals as goal
 
 pub returns : goal.returns

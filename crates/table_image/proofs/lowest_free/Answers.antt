@@ -4,7 +4,6 @@ use lib.Count.{count_trailing_zeros}
 use Rattle.table_image.specs.Layout.{table_of}
 use Rattle.table_image.proofs.Bits.{lowest_free_lem}
 use Rattle.table_image.proofs.Lending.{mask_lent}
-use borrow.Author.Rules.{rules}
 use Rattle.paper.specs.Base.{stream_total}
 use Rattle.table_image.proofs.lowest_free.Goals as goal
 

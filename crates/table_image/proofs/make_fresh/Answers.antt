@@ -7,7 +7,6 @@ use lib.ListN.{replicate, drop_of_length-le}
 use Rattle.octets.specs.Numbers.{be16, be32}
 use Rattle.octets.specs.Runs.{paste}
 use Rattle.table_image.specs.Layout.{stream_bytes, waiting_bytes, header_bytes, image_of, mask_offset, counter_offset, image_size}
-use borrow.Author.Rules.{rules}
 use Rattle.table_image.proofs.make_fresh.Goals as goal
 
 pub returns : goal.returns

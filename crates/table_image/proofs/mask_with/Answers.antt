@@ -1,7 +1,6 @@
 -- A bit that is not set is set by adding its value, and 16 bits still hold it.
 use native.Mathlib.Omega.{arith}
 use Rattle.table_image.proofs.Bits.{one_shl, raise_fits}
-use borrow.Author.Rules.{rules}
 use Rattle.table_image.proofs.mask_with.Goals as goal
 
 pub overflow_add-result : goal.overflow_add-result

@@ -1,7 +1,6 @@
 -- A bit that is set is cleared by taking its value away, which the mask is no less than.
 use native.Mathlib.Omega.{arith}
 use Rattle.table_image.proofs.Bits.{one_shl, set_le}
-use borrow.Author.Rules.{rules}
 use Rattle.table_image.proofs.mask_without.Goals as goal
 
 pub overflow_sub-result : goal.overflow_sub-result

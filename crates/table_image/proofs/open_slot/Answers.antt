@@ -10,7 +10,6 @@ use Rattle.paper.specs.Base.{Slot}
 use Rattle.table_image.specs.Layout.{bit, table_of, mask_offset}
 use Rattle.table_image.proofs.Lending.{mask_lent, bit-lent}
 use Rattle.table_image.proofs.Stored.{store_opening}
-use borrow.Author.Rules.{rules}
 use Rattle.table_image.proofs.open_slot.Goals as goal
 
 pub mask_without-m-requires : goal.mask_without-m-requires

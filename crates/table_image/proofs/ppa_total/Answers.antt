@@ -2,7 +2,6 @@
 use mathlib.Core.Path.{sym}
 use lib.ListN.{get_or}
 use Rattle.table_image.specs.Layout.{ppa_at, table_of}
-use borrow.Author.Rules.{rules}
 use Rattle.ledger.proofs.Lists.{listed-length}
 use Rattle.table_image.proofs.ppa_total.Goals as goal
 

@@ -1,7 +1,6 @@
 -- The table remembers an opening exactly if its byte is 1.
 use mathlib.Core.Path.{refl}
 use Rattle.table_image.specs.Layout.{table_of}
-use borrow.Author.Rules.{rules}
 use Rattle.table_image.proofs.remembers.Goals as goal
 
 pub returns : goal.returns

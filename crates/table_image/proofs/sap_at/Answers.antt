@@ -2,10 +2,9 @@
 use Prim.Native.Nat.{◌+◌}
 use mathlib.Core.Path.{refl, sym, ap, ◌∙◌}
 use native.Mathlib.Omega.{arith}
-use Rattle.paper.specs.Base.{Slot, stream}
+use Rattle.paper.specs.Base.{Slot}
 use Rattle.table_image.specs.Layout.{slot_base, stream_from, slot_at, sap_offset, slot_size}
 use Rattle.table_image.proofs.TableBack.{slot-at}
-use borrow.Author.Rules.{rules}
 use Rattle.octets.proofs.Numbers.{part-be16}
 use Rattle.table_image.proofs.sap_at.Goals as goal
 

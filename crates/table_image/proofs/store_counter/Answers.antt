@@ -6,7 +6,6 @@ use Rattle.octets.specs.Numbers.{be32}
 use Rattle.octets.specs.Runs.{paste}
 use Rattle.table_image.specs.Layout.{table_of, counter_offset}
 use Rattle.table_image.proofs.Stored.{store_counter}
-use borrow.Author.Rules.{rules}
 use Rattle.table_image.proofs.store_counter.Goals as goal
 
 pub returns : goal.returns

@@ -10,7 +10,6 @@ use Rattle.octets.proofs.Runs.{paste_join}
 use Rattle.paper.specs.declared.Ppa.{Ppa}
 use Rattle.table_image.specs.Layout.{ppa_base, ppa_bytes, table_of, ppa_count_offset}
 use Rattle.table_image.proofs.Stored.{store_ppa}
-use borrow.Author.Rules.{rules}
 use Rattle.table_image.proofs.store_ppa.Goals as goal
 
 pub returns : goal.returns

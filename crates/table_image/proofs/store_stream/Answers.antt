@@ -5,7 +5,6 @@ use mathlib.Core.List.{List}
 use Rattle.octets.specs.Runs.{paste}
 use Rattle.table_image.specs.Layout.{slot_base, table_of}
 use Rattle.table_image.proofs.Stored.{store_stream}
-use borrow.Author.Rules.{rules}
 use Rattle.table_image.proofs.store_stream.Goals as goal
 
 pub returns : goal.returns

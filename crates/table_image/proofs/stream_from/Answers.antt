@@ -1,6 +1,5 @@
 -- Each field is read where the layout has it.
 use Rattle.table_image.specs.Layout.{stream_from}
-use borrow.Author.Rules.{rules}
 use Rattle.table_image.proofs.stream_from.Goals as goal
 
 pub returns : goal.returns

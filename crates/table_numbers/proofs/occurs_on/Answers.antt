@@ -24,7 +24,7 @@ loop-k-preserved c =
     let d : occ a.n (drop k w) ≡ one_if (eqb a.n (get_or w k 0)) + occ a.n (drop (k + 1) w) = rw add-one (ap (occ a.n) (drop-cons w k 0 (omega arith))) in (
       omega arith,
       elim c.if-n-c.branch [
-        then-n-c g ↦ omega (arith, c.loop-k.invariant.1, ap one_if (eq-eqb a.n (get_or w k 0) (g.if-n-c.true ∙ e)), g.total-is)
+        | then-n-c g ↦ omega (arith, c.loop-k.invariant.1, ap one_if (eq-eqb a.n (get_or w k 0) (g.if-n-c.true ∙ e)), g.total-is)
         | else-n-c g ↦ omega (arith, c.loop-k.invariant.1, ap one_if (ne_eqb a.n (get_or w k 0) (λ f. g.if-n-c.false (f ∙ sym e))), g.total-is)
       ],
     )

@@ -1,5 +1,4 @@
 -- The letters follow from 10 on, so one test tells which of the two rows of digits it is.
-use borrow.Author.Rules.{rules}
 use borrow.Author.Tests.{lt-ltb, le-ltb}
 use Rattle.text.proofs.digit.Goals as goal
 

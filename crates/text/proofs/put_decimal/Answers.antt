@@ -4,7 +4,6 @@ use native.Mathlib.Omega.{arith}
 use mathlib.Core.Path.{◌≡◌, ap, ◌∙◌}
 use lib.ListN.{length, take, drop, length-drop}
 use lib.Seq.{take_all}
-use borrow.Author.Rules.{rules}
 use Rattle.octets.specs.Runs.{paste}
 use Rattle.text.specs.Digits.{most_digits, decimal}
 use Rattle.text.proofs.put_decimal.Goals as goal

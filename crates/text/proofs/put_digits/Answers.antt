@@ -1,14 +1,10 @@
 -- A number's digits are found from the last to the first: those still to come, and behind them those that stand from `from` on, are
 -- its digits at every turn.
-use Prim.Native.Nat.{ℕ, ◌≤◌, ◌<◌, ◌^◌}
 use native.Mathlib.Omega.{arith}
-use mathlib.Core.Path.{◌≡◌, refl, ◌∙◌}
-use mathlib.Core.List.{List, ◌++◌}
-use lib.ListN.{length, drop, length-set}
+use mathlib.Core.Path.{refl, ◌∙◌}
+use lib.ListN.{length-set}
 use borrow.Author.Rules.{rules}
-use Rattle.text.specs.Digits.{digits, most_digits, decimal}
 use Rattle.text.proofs.Laws.{two_places, tenth, digits_none, digit-before, digit-first}
-use Rattle.text.proofs.put_digits.Invariants.{ToCome}
 use Rattle.text.proofs.put_digits.Goals as goal
 
 pub loop-rest-init : goal.loop-rest-init

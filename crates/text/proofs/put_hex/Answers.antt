@@ -1,5 +1,5 @@
 -- Each byte has two digits, so after i bytes the digits of the first i stand there, 2 * i of them.
-use Prim.Native.Nat.{ℕ, ◌+◌, ◌≤◌, ◌-◌, ◌*◌, ◌/◌, ◌%◌}
+use Prim.Native.Nat.{ℕ, ◌+◌, ◌*◌, ◌/◌, ◌%◌}
 use native.Mathlib.Omega.{arith}
 use mathlib.Core.Path.{◌≡◌, refl, sym, ap, ap₂, ◌∙◌}
 use mathlib.Core.List.{List, [], ◌∷◌}
@@ -10,7 +10,6 @@ use Rattle.octets.specs.Runs.{paste}
 use Rattle.octets.proofs.Runs.{paste-nothing, paste_then}
 use Rattle.text.specs.Digits.{digit, hex}
 use Rattle.text.proofs.Laws.{hex-length, hex-next}
-use Rattle.text.proofs.put_hex.Invariants.{Stand}
 use Rattle.text.proofs.put_hex.Goals as goal
 
 pub loop-i-init : goal.loop-i-init

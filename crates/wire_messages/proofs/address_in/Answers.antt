@@ -1,5 +1,4 @@
 -- The part is as long as the form says, which is at most eight bytes.
-use borrow.Author.Rules.{rules}
 use native.Mathlib.Omega.{arith}
 use Rattle.paper.proofs.Tails.{form_most}
 use Rattle.wire_messages.proofs.address_in.Goals as goal

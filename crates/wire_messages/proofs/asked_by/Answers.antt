@@ -1,6 +1,5 @@
 -- The code names the primitive, and each primitive's fields are read by its own rule.
 use Rattle.paper.specs.Messages.{asked_by}
-use borrow.Author.Rules.{rules}
 use Rattle.wire_messages.proofs.asked_by.Goals as goal
 
 pub returns-in-Info : goal.returns-in-Info

@@ -1,5 +1,4 @@
 -- The field is read where the paper has it, then the size is tested.
-use borrow.Author.Rules.{rules}
 use Rattle.wire_messages.proofs.attach_in.Goals as goal
 
 pub returns : goal.returns

@@ -1,5 +1,4 @@
 -- The fields are read where the paper has them, then the size is tested.
-use borrow.Author.Rules.{rules}
 use Rattle.wire_messages.proofs.disconnect_in.Goals as goal
 
 pub returns : goal.returns

@@ -2,7 +2,6 @@
 use borrow.Author.Tests.{ne_eqb}
 use Rattle.ledger.specs.Choice.{◌⇒◌∣◌}
 use Rattle.paper.specs.Messages.{primitive_of}
-use borrow.Author.Rules.{rules}
 use Rattle.wire_messages.proofs.primitive_of.Goals as goal
 
 pub returns-in-0 : goal.returns-in-0

@@ -1,5 +1,4 @@
 -- Length, letter and stream are tested as the paper has them.
-use borrow.Author.Rules.{rules}
 use borrow.Author.Tests.{eq-eqb, ne_eqb, le-leb, lt-leb}
 use Rattle.paper.specs.RecordsIn.{has_data}
 use Rattle.wire_records.proofs.has_data.Goals as goal

@@ -5,7 +5,6 @@ use mathlib.Core.Path.{◌≡◌, ap}
 use Rattle.paper.specs.RecordsIn.{has_nonzero_past}
 use Prim.Native.Nat.{◌+◌, ◌-◌}
 use mathlib.Core.Bool.{not}
-use borrow.Author.Rules.{rules}
 use Rattle.wire_records.proofs.has_nonzero_past.Goals as goal
 
 pub returns-then-most-l : goal.returns-then-most-l

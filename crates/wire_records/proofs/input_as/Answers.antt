@@ -1,5 +1,4 @@
 -- Each kind's values are read where the paper has them; a whole message, and a whole frame, is long enough for the tests of its padding.
-use borrow.Author.Rules.{rules}
 use Rattle.wire_records.proofs.input_as.Goals as goal
 
 pub read_message-requires : goal.read_message-requires

@@ -13,7 +13,6 @@ use Rattle.paper.specs.declared.Kind.{Kind}
 use Rattle.paper.specs.declared.Kind.TheVariants as kind
 use Rattle.paper.specs.declared.Input.{Input}
 use Rattle.paper.specs.declared.Input.TheVariants as input
-use borrow.Author.Rules.{rules}
 use Rattle.wire_records.proofs.input_of.Goals as goal
 
 sizeless : (k : Kind) (r : List ℕ) → size_of k ≡ 0 → input.Unreadable ≡ input_as k r

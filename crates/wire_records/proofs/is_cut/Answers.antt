@@ -1,5 +1,4 @@
 -- The size of the kind is compared with what is there, as the paper does.
-use borrow.Author.Rules.{rules}
 use Rattle.wire_records.proofs.is_cut.Goals as goal
 
 pub returns : goal.returns

@@ -3,10 +3,9 @@ use Prim.Native.Nat.{ℕ}
 use mathlib.Core.Path.{◌∙◌, sym, ◌≡◌, ap}
 use mathlib.Core.Bool.{true}
 use native.Mathlib.Omega.{arith}
-use borrow.Author.Rules.{rules}
 use borrow.Author.Tests.{eqb-true}
 use Rattle.ledger.specs.Choice.{◌⇒◌∣◌}
-use Rattle.ledger.proofs.Tallies.{of_either, test_held, test_failed}
+use Rattle.ledger.proofs.Tallies.{of_either}
 use Rattle.paper.specs.RecordsIn.{kind_of, message_size, size_of, is_message, is_pair}
 use Rattle.wire_records.proofs.is_pair.Goals as goal
 

@@ -1,7 +1,6 @@
 -- The address length and the three fields are tested in the paper's order, and the values read where the paper has them.
 use Rattle.ledger.specs.Choice.{◌⇒◌∣◌}
 use Rattle.paper.specs.RecordsIn.{frame_as}
-use borrow.Author.Rules.{rules}
 use Rattle.wire_records.proofs.read_frame.Goals as goal
 
 pub returns-then-not-is_address_length : goal.returns-then-not-is_address_length

@@ -1,7 +1,6 @@
 -- The padding decides, then whether an M belongs to it, each by the paper's own test.
 use Rattle.ledger.specs.Choice.{◌⇒◌∣◌}
 use Rattle.paper.specs.RecordsIn.{message_as}
-use borrow.Author.Rules.{rules}
 use Rattle.wire_records.proofs.read_message.Goals as goal
 
 pub returns-then-has_nonzero_past : goal.returns-then-has_nonzero_past

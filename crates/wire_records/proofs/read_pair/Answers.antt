@@ -4,10 +4,9 @@ use mathlib.Core.Bool.{true}
 use mathlib.Core.List.{List}
 use Prim.Native.Nat.{ℕ, ◌≤◌}
 use lib.ListN.{length}
-use borrow.Author.Rules.{rules}
 use borrow.Author.Tests.{leb-true}
 use Rattle.ledger.specs.Choice.{◌⇒◌∣◌}
-use Rattle.ledger.proofs.Tallies.{both_of, test_held}
+use Rattle.ledger.proofs.Tallies.{both_of}
 use Rattle.paper.specs.RecordsIn.{pair_size, has_data, pair_as}
 use Rattle.wire_records.proofs.read_pair.Goals as goal
 

@@ -1,6 +1,5 @@
 -- The size of the kind is compared with what is there, and a whole message looked at for its M, as the paper does.
 use mathlib.Core.Path.{sym, ◌∙◌}
-use borrow.Author.Rules.{rules}
 use borrow.Author.Tests.{ltb-false}
 use Rattle.ledger.specs.Choice.{◌⇒◌∣◌}
 use Rattle.paper.specs.RecordsIn.{record_size}

@@ -1,5 +1,4 @@
 -- The code and L are tested as the paper has them, and another code is enough for no.
-use borrow.Author.Rules.{rules}
 use borrow.Author.Tests.{eq-eqb, ne_eqb, le-leb, lt-leb}
 use Rattle.ledger.proofs.Tallies.{both_none, both_true}
 use Rattle.paper.specs.RecordsIn.{wants_data}

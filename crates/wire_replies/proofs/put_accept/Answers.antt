@@ -1,5 +1,4 @@
 -- The correlation goes right behind the letter and the stream, so the three stand as the record has them.
-use borrow.Author.Rules.{rules}
 use native.Mathlib.Omega.{arith}
 use mathlib.Core.List.{[], ◌∷◌}
 use Rattle.octets.specs.Numbers.{be32}

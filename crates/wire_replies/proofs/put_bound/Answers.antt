@@ -1,5 +1,4 @@
 -- The six fields are those of BIND_ACK: the address is as long as the MAC and the SAP, and the count granted takes four bytes.
-use borrow.Author.Rules.{rules}
 use Prim.Native.Nat.{ℕ, ◌+◌}
 use mathlib.Core.Path.{ap₂}
 use mathlib.Core.Bool.{true}

@@ -1,5 +1,4 @@
 -- The test is the paper's: where the stream's state tells its binding the address is written, else nothing.
-use borrow.Author.Rules.{rules}
 use native.Mathlib.Omega.{arith}
 use mathlib.Core.Path.{refl, sym, ◌∙◌}
 use Rattle.wire_replies.proofs.put_bound_address.Goals as goal

@@ -1,5 +1,4 @@
 -- The called address goes right behind the letter and the stream, and is no longer than an address.
-use borrow.Author.Rules.{rules}
 use native.Mathlib.Omega.{arith}
 use mathlib.Core.List.{[], ◌∷◌}
 use Rattle.octets.proofs.Writing.{wrote_put, wrote-most}

@@ -1,5 +1,4 @@
 -- Length and data go right behind the letter and the stream, and are no longer than those of an M.
-use borrow.Author.Rules.{rules}
 use native.Mathlib.Omega.{arith}
 use mathlib.Core.List.{[], ◌∷◌}
 use Rattle.octets.proofs.Writing.{wrote_put, wrote-most}

@@ -1,5 +1,4 @@
 -- The correlation goes right behind the letter and the stream, and the reason right behind the correlation.
-use borrow.Author.Rules.{rules}
 use native.Mathlib.Omega.{arith}
 use Prim.Native.Nat.{ℕ, ◌+◌}
 use mathlib.Core.List.{List, [], ◌∷◌, ◌++◌}

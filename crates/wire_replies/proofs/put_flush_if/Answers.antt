@@ -1,5 +1,4 @@
 -- A flush is a letter and a stream and no more; where none is due, no byte is written.
-use borrow.Author.Rules.{rules}
 use native.Mathlib.Omega.{arith}
 use mathlib.Core.Path.{refl}
 use Rattle.octets.proofs.Writing.{wrote-most}

@@ -1,5 +1,4 @@
 -- The block goes right behind the letter, the stream and L, and the M to the rest of the room, right behind the message.
-use borrow.Author.Rules.{rules}
 use native.Mathlib.Omega.{arith}
 use mathlib.Core.Path.{refl}
 use Prim.Native.Nat.{ℕ}

@@ -1,12 +1,10 @@
 -- Whether INFO_ACK tells the binding is tested by the stream's state, as the paper has it, so either way the fields are the
 -- stream's own.
-use borrow.Author.Rules.{rules}
 use Prim.Native.Nat.{ℕ, ◌+◌, ◌-◌, ◌^◌}
 use native.Mathlib.Omega.{arith}
 use mathlib.Core.Path.{◌≡◌, sym, ap, ◌∙◌}
 use mathlib.Core.Bool.{true}
 use mathlib.Core.List.{List, ◌∷◌, ◌++◌}
-use borrow.Author.Tests.{not-true, not-false}
 use Rattle.octets.specs.Blocks.{flat}
 use Rattle.octets.proofs.Writing.{wrote-same}
 use Rattle.paper.specs.Base.{mac_size}

@@ -1,5 +1,4 @@
 -- The nineteen fields are the code and those of INFO_ACK, where state and mode, a byte each, take four bytes.
-use borrow.Author.Rules.{rules}
 use Prim.Native.Nat.{ℕ}
 use mathlib.Core.Path.{ap₂}
 use mathlib.Core.Bool.{true}

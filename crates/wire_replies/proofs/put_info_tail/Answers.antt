@@ -1,5 +1,4 @@
 -- The six bytes go right behind the address, or to the start where there is none, and an address is at most eight bytes.
-use borrow.Author.Rules.{rules}
 use native.Mathlib.Omega.{arith}
 use mathlib.Core.List.{[]}
 use lib.ListN.{replicate}

@@ -1,5 +1,4 @@
 -- The block goes right behind the letter, the stream and L, and L is how long the fields and the bytes behind them are.
-use borrow.Author.Rules.{rules}
 use Prim.Native.Nat.{ℕ}
 use native.Mathlib.Omega.{arith}
 use mathlib.Core.Path.{◌≡◌, refl, sym, ap, ◌∙◌}

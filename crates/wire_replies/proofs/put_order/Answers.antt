@@ -1,5 +1,4 @@
 -- An order's own writer wrote it: a letter and a stream, and behind them what it carries.
-use borrow.Author.Rules.{rules}
 use native.Mathlib.Omega.{arith}
 use Rattle.octets.proofs.Writing.{wrote-most}
 use Rattle.wire_replies.proofs.put_order.Goals as goal

@@ -1,5 +1,4 @@
 -- The address goes over the first of eight zeros, so they are the address and zeros past it, and they go right behind letter, stream and length.
-use borrow.Author.Rules.{rules}
 use Prim.Native.Nat.{ℕ, ◌≤◌}
 use native.Mathlib.Omega.{arith}
 use mathlib.Core.Path.{◌≡◌, ap, ◌∙◌}

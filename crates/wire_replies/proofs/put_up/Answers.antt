@@ -1,5 +1,4 @@
 -- Each reply is one message under its letter, whose fields are those that the paper's list has for it.
-use borrow.Author.Rules.{rules}
 use Rattle.paper.specs.Replies.{content_of}
 use Rattle.wire_replies.proofs.put_up.Goals as goal
 

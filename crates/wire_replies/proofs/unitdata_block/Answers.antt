@@ -1,5 +1,4 @@
 -- The two addresses fit the small array and start it, the six fields are those of UNITDATA_IND, and both go into the block.
-use borrow.Author.Rules.{rules}
 use Prim.Native.Nat.{ℕ, ◌+◌, ◌-◌, ◌≤◌}
 use native.Mathlib.Omega.{arith}
 use mathlib.Core.Path.{◌≡◌, ap₂, ◌∙◌}

@@ -1,5 +1,4 @@
 -- The code asks for the longer length, as the definition does.
-use borrow.Author.Rules.{rules}
 use borrow.Author.Tests.{eq-eqb, ne_eqb}
 use Rattle.paper.specs.Base.{form_in}
 use Rattle.paper.proofs.addresses.form_in.Goals as goal

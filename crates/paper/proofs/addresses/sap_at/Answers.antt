@@ -1,5 +1,4 @@
 -- One byte or two, by the form.
-use borrow.Author.Rules.{rules}
 use Rattle.paper.specs.RecordsIn.{sap_at}
 use Rattle.paper.proofs.addresses.sap_at.Goals as goal
 

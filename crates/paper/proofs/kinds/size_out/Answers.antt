@@ -1,6 +1,5 @@
 -- The letters are tested as the paper's list has them, each with its size.
 use borrow.Author.Tests.{eq-eqb, ne_eqb}
-use borrow.Author.Rules.{rules}
 use Rattle.ledger.specs.Choice.{◌⇒◌∣◌}
 use Rattle.paper.specs.RecordsOut.{size_out}
 use Rattle.paper.proofs.kinds.size_out.Goals as goal

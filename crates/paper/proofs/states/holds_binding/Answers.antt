@@ -1,5 +1,4 @@
 -- The bound states are those from 6 on.
-use borrow.Author.Rules.{rules}
 use Rattle.paper.proofs.StateNumbers.{bound_from}
 use Rattle.paper.proofs.states.holds_binding.Goals as goal
 

@@ -1,7 +1,6 @@
 -- The states with a connection are 8 and those from 11 on: computed for each of the eight states.
 use Prim.Native.Nat.{ℕ}
 use lib.Dec.{eqb}
-use borrow.Author.Rules.{rules}
 use borrow.Author.Tests.{eq-eqb, ne_eqb}
 use mathlib.Core.Path.{sym, ap, ◌∙◌}
 use Rattle.paper.proofs.StateNumbers.{calling_from}

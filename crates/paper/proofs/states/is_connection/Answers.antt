@@ -1,5 +1,4 @@
 -- The states bound in mode 1 alone are those from 8 on.
-use borrow.Author.Rules.{rules}
 use Rattle.paper.proofs.StateNumbers.{connection_from}
 use Rattle.paper.proofs.states.is_connection.Goals as goal
 

@@ -1,5 +1,4 @@
 -- The states with a connection that is up are those from 11 on.
-use borrow.Author.Rules.{rules}
 use Rattle.paper.proofs.StateNumbers.{joined_from}
 use Rattle.paper.proofs.states.is_joined.Goals as goal
 

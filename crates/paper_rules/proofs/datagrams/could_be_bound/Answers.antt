@@ -1,6 +1,5 @@
 -- In each form the test is that of a bind.
 use Rattle.paper.specs.Datagrams.{could_be_bound}
-use borrow.Author.Rules.{rules}
 use Rattle.paper_rules.proofs.datagrams.could_be_bound.Goals as goal
 
 pub returns-in-WithSap : goal.returns-in-WithSap

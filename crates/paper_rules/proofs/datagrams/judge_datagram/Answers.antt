@@ -3,7 +3,6 @@
 use borrow.Author.Tests.{lt-ltb, le-ltb, eq-eqb, ne_eqb}
 use Rattle.ledger.specs.Choice.{◌⇒◌∣◌}
 use Rattle.paper.specs.Datagrams.{judge_datagram}
-use borrow.Author.Rules.{rules}
 use Rattle.paper_rules.proofs.datagrams.judge_datagram.Goals as goal
 
 pub returns-then-u-length_of : goal.returns-then-u-length_of

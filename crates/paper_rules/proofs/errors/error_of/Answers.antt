@@ -1,5 +1,4 @@
 -- Each rule's error is the paper's, rule by rule.
-use borrow.Author.Rules.{rules}
 use Rattle.paper_rules.proofs.errors.error_of.Goals as goal
 
 pub returns-in-NotSupported : goal.returns-in-NotSupported

@@ -1,7 +1,6 @@
 -- In the table the first that holds is found.
 use mathlib.Core.Path.{◌∙◌}
 use Rattle.paper.specs.Exclusions.{excluded_by}
-use borrow.Author.Rules.{rules}
 use Rattle.paper_rules.proofs.exclusions.excluded_by.Goals as goal
 
 pub returns : goal.returns

@@ -1,19 +1,10 @@
 -- What was passed over does not hold, so the search goes on in what is left of the list.
 use Prim.Native.Nat.{ℕ, ◌-◌, ◌≤◌}
-use native.Mathlib.Omega.{arith}
-use native.Mathlib.Numerals.{add-one}
-use mathlib.Core.Path.{◌≡◌, refl, sym, ap, ◌∙◌}
-use mathlib.Core.Bool.{true, false}
+use mathlib.Core.Path.{◌≡◌}
 use mathlib.Core.List.{List}
-use lib.ListN.{length, get_or, drop, drop_of_length-le}
-use borrow.Author.Rules.{rules}
-use Rattle.ledger.proofs.Tallies.{hold, skip}
-use Rattle.paper.specs.Exclusions.{exclusion_total, excludes, excluded_in}
+use lib.ListN.{drop}
+use Rattle.paper.specs.Exclusions.{exclusion_total, excluded_in}
 use Rattle.paper.specs.declared.Exclusion.{Exclusion}
-use Rattle.paper.specs.declared.Ground.TheVariants.{OddSap}
-use Rattle.paper.specs.declared.Which.TheVariants.{Odd}
-use Rattle.paper.specs.declared.Place.TheVariants.{Binding}
-use Rattle.paper.proofs.Exclusions.{excluded_from}
 use Rattle.paper_rules.proofs.exclusions.excluded_in.Given as goal
 
 pub record Passed (l : List Exclusion) (n k : ℕ) : Type 0 where

@@ -1,7 +1,6 @@
 -- The tests are the definition's, in its order.
 use borrow.Author.Tests.{lt-leb, le-leb}
 use Rattle.paper.specs.Exclusions.{excludes}
-use borrow.Author.Rules.{rules}
 use Rattle.paper_rules.proofs.exclusions.excludes.Goals as goal
 
 pub returns-then-n-x : goal.returns-then-n-x

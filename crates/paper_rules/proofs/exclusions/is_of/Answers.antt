@@ -1,5 +1,4 @@
 -- The test of odd numbers is the definition's, and all numbers pass the other.
-use borrow.Author.Rules.{rules}
 use Rattle.paper_rules.proofs.exclusions.is_of.Goals as goal
 
 pub returns-in-Odd : goal.returns-in-Odd

@@ -1,5 +1,4 @@
 -- By the answer's two cases.
-use borrow.Author.Rules.{rules}
 use Rattle.paper_rules.proofs.exclusions.none_excludes.Goals as goal
 
 pub returns-in-By : goal.returns-in-By

@@ -1,6 +1,5 @@
 -- The two tests are the paper's, in its order.
 use borrow.Author.Tests.{eq-eqb, ne_eqb}
-use borrow.Author.Rules.{rules}
 use Rattle.paper_rules.proofs.order.connects_to_type.Goals as goal
 
 pub returns-then-b-eq1 : goal.returns-then-b-eq1

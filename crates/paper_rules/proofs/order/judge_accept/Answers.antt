@@ -2,7 +2,6 @@
 use borrow.Author.Tests.{eq-eqb, ne_eqb}
 use Rattle.ledger.specs.Choice.{◌⇒◌∣◌}
 use Rattle.paper.specs.ErrorOrder.{judge_accept}
-use borrow.Author.Rules.{rules}
 use Rattle.paper_rules.proofs.order.judge_accept.Goals as goal
 
 pub returns-then-not-is_open : goal.returns-then-not-is_open

@@ -1,10 +1,9 @@
 -- The rules are tested in the order of step 4, and what passes them has a mode of one byte and a SAP or type of two.
-use borrow.Author.Tests.{eq-eqb, ne_eqb, not-false}
+use borrow.Author.Tests.{eq-eqb, ne_eqb}
 use mathlib.Core.Path.{sym, ◌∙◌}
 use Rattle.ledger.specs.Choice.{◌⇒◌∣◌}
 use Rattle.paper.specs.ErrorOrder.{judge_bind}
 use Rattle.paper.proofs.Saps.{mode-fits, sap-fits}
-use borrow.Author.Rules.{rules}
 use Rattle.paper_rules.proofs.order.judge_bind.Goals as goal
 
 pub returns-then-not-is_mode : goal.returns-then-not-is_mode

@@ -1,6 +1,5 @@
 -- Each carrier that a token can name has its own rule.
 use Rattle.paper.specs.ErrorOrder.{judge_carrier}
-use borrow.Author.Rules.{rules}
 use Rattle.paper_rules.proofs.order.judge_carrier.Goals as goal
 
 pub returns-in-Itself : goal.returns-in-Itself

@@ -2,7 +2,6 @@
 use borrow.Author.Tests.{lt-ltb, le-ltb, eq-eqb, ne_eqb}
 use Rattle.ledger.specs.Choice.{◌⇒◌∣◌}
 use Rattle.paper.specs.ErrorOrder.{judge_connect}
-use borrow.Author.Rules.{rules}
 use Rattle.paper_rules.proofs.order.judge_connect.Goals as goal
 
 pub returns-then-c-ne0 : goal.returns-then-c-ne0

@@ -2,7 +2,6 @@
 use borrow.Author.Tests.{eq-eqb, ne_eqb}
 use Rattle.ledger.specs.Choice.{◌⇒◌∣◌}
 use Rattle.paper.specs.ErrorOrder.{judge_disconnect}
-use borrow.Author.Rules.{rules}
 use Rattle.paper_rules.proofs.order.judge_disconnect.Goals as goal
 
 pub returns-then-state_number-eq9 : goal.returns-then-state_number-eq9

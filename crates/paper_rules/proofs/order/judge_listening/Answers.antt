@@ -1,7 +1,6 @@
 -- The rules are tested in the order of step 4; what a bind is served with has its mode and SAP as they were asked for.
 use Rattle.ledger.specs.Choice.{◌⇒◌∣◌}
 use Rattle.paper.specs.ErrorOrder.{judge_listening}
-use borrow.Author.Rules.{rules}
 use Rattle.paper_rules.proofs.order.judge_listening.Goals as goal
 
 pub returns-then-connects_to_type : goal.returns-then-connects_to_type

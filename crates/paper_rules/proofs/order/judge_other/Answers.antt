@@ -2,7 +2,6 @@
 use borrow.Author.Tests.{eq-eqb, ne_eqb}
 use Rattle.ledger.specs.Choice.{◌⇒◌∣◌}
 use Rattle.paper.specs.ErrorOrder.{judge_other}
-use borrow.Author.Rules.{rules}
 use Rattle.paper_rules.proofs.order.judge_other.Goals as goal
 
 pub returns-then-state_number-ne6 : goal.returns-then-state_number-ne6

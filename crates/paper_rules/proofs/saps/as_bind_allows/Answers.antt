@@ -2,7 +2,6 @@
 use borrow.Author.Tests.{eq-eqb, ne_eqb}
 use lib.Dec.{leb}
 use Rattle.paper.specs.Saps.{most_open, as_bind_allows}
-use borrow.Author.Rules.{rules}
 use Rattle.ledger.proofs.Tallies.{either-false}
 use Rattle.paper_rules.proofs.saps.as_bind_allows.Goals as goal
 

@@ -4,7 +4,6 @@ use Prim.Native.Nat.{◌≤◌}
 use native.Mathlib.Nat.{min-eq_left, min-eq_right}
 use native.Mathlib.Omega.{arith}
 use Rattle.paper.specs.Saps.{most_open, grant_of}
-use borrow.Author.Rules.{rules}
 use Rattle.paper_rules.proofs.saps.grant_of.Goals as goal
 
 pub returns-then-mode-eq2 : goal.returns-then-mode-eq2

@@ -1,5 +1,4 @@
 -- What a state holds is asked of it as the paper does: nothing in 0, a binding or not elsewhere.
-use borrow.Author.Rules.{rules}
 use borrow.Author.Tests.{eq-eqb, ne_eqb}
 use Prim.Native.Nat.{ℕ}
 use lib.Dec.{eqb}

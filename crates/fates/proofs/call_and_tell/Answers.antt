@@ -14,49 +14,29 @@ use Rattle.fates_register.specs.Register.{entered_all}
 use Rattle.fates_report.specs.Report.{all_text}
 use Rattle.fates.specs.Told.{lines_by}
 use Rattle.fates.proofs.Telling.{told-next, told-sound}
-use Rattle.fates.proofs.call_and_tell.Statement.{statement}
-use Rattle.fates.proofs.call_and_tell.Tie as tie
+use Rattle.fates.proofs.call_and_tell.Goals as goal
 
 same_lines : (r : List ℕ) (l m : Left) → SameBack l m → lines_by r l ≡ lines_by r m
 same_lines r l m same i = lines_of r (token_in (same.number i)) (same.written i)
 
-call-sound-requires : tie.Need-call-sound-requires
-call-sound-requires c κs =
-    let lending = c.before.before.before.before.before.before in
-    let start = lending.before in
-    told-sound start.args.table.now start.args.register.now start.requires.told
+pub call_sound-answer-requires : goal.call_sound-answer-requires
+call_sound-answer-requires c =
+    told-sound c.args.table.now c.args.register.now c.requires.told
 
-returns : tie.Need-returns
+pub returns : goal.returns
 returns c =
-    let noted = c.before.before.before.before in
-    let back = noted.before.before.before.before in
-    let called = back.before.before.before.before in
-    let lent = called.before.before.before.before.before in
-    let start = lent.before.before.before in
-    let a = start.args in
+    let a = c.args in
     let register = a.register.now in
     let made = call_made a.table.now a.bytes.now in
     let same =
-    subst (λ (l : Left). SameBack l made) (sym called.call-sound.ensures) (made_in a.table.now a.bytes.now a.room.now start.requires.roomy) in
+    subst (λ (l : Left). SameBack l made) (sym c.call_sound-answer.ensures) (made_in a.table.now a.bytes.now a.room.now c.requires.roomy) in
     let lines = same_lines a.bytes.now _ made same in
-    let told = noted.tell-call.ensures in
+    let told = c.tell_call.ensures in
     let entered = told.entered ∙ ap (λ (ys : List Line). entered_all ys register) lines in
-    let next = told-next a.table.now register a.bytes.now start.requires.told (λ k. omega (arith, lent.shared-slice-known.given k)) in
+    let next = told-next a.table.now register a.bytes.now c.requires.told (λ k. omega (arith, c.shared_slice_known-1.given k)) in
     record {
       told = rw (same.image, entered) next;
       image = same.image;
       entered = entered;
       wrote = wrote-same (ap (λ (ys : List Line). all_text ys register) lines) told.wrote;
     }
-
-pub call-and-tell-spec : {M : Type 1} → statement M
-call-and-tell-spec =
-    tie.close
-    (tie.spec
-    call-sound-requires
-    (λ c κs. search rules)
-    (λ c. search rules)
-    (λ c. search rules)
-    (λ c. search rules)
-    (λ c. search rules)
-    returns)

@@ -15,34 +15,23 @@ use Rattle.keeping.proofs.Images.{call_keeps}
 use Rattle.replay_transcript.specs.Transcript.{call_text}
 use Rattle.replay_transcript.proofs.Laws.{text_of-written}
 use Rattle.replay.specs.Printed.{printed}
-use Rattle.replay.proofs.replay_call.Statement.{statement}
-use Rattle.replay.proofs.replay_call.Tie as tie
+use Rattle.replay.proofs.replay_call.Goals as goal
 
 same_text : (n : ℕ) (l m : Left) → SameBack l m → printed n l ≡ printed n m
 same_text n l m same =
     ap (λ (k : ℕ). call_text n k l.room) same.number
     ∙ text_of-written n m.number l.room m.room (ap (λ (k : ℕ). take (k % 65536) l.room) (sym same.number) ∙ same.written)
 
-returns : tie.Need-returns
+pub returns : goal.returns
 returns c =
-    let wrote = c.before.before in
-    let counted = wrote.before.before.before in
-    let called = counted.before.before.before.before in
-    let lent = called.before.before.before.before.before in
-    let start = lent.before.before in
-    let a = start.args in
+    let a = c.args in
     let made = call_made a.table.now a.bytes.now in
     let same =
-    subst (λ (l : Left). SameBack l made) (sym called.call-sound.ensures) (made_in a.table.now a.bytes.now a.room.now start.requires.roomy) in
-    let kept = call_keeps a.table.now a.bytes.now (replicate frame_room_size 0) start.requires.sound (λ k. omega (arith, lent.shared-slice-known.given k)) in
+    subst (λ (l : Left). SameBack l made) (sym c.call_sound-answer.ensures) (made_in a.table.now a.bytes.now a.room.now c.requires.roomy) in
+    let kept = call_keeps a.table.now a.bytes.now (replicate frame_room_size 0) c.requires.sound (λ k. omega (arith, c.shared_slice_known-1.given k)) in
     record {
       image = same.image;
       sound = ap sound_image same.image ∙ kept;
-      wrote = wrote-same (same_text a.n _ made same) wrote.put-call.ensures;
+      wrote = wrote-same (same_text a.n _ made same) c.put_call-end.ensures;
       told = ap (λ (k : ℕ). ltb 0 (k / 65536 % 256)) same.number;
     }
-
-pub replay-call-spec : {M : Type 1} → statement M
-replay-call-spec =
-    tie.close
-    (tie.spec (λ c κs. search rules) (λ c κs. search rules) (λ c. search rules) (λ c. search rules) (λ c. search rules) returns)

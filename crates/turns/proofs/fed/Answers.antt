@@ -7,12 +7,11 @@ use lib.Seq.{take_all}
 use borrow.Author.Rules.{rules}
 use Rattle.octets.proofs.Runs.{paste_begins, kept-before}
 use Rattle.turns.specs.Turns.{unread}
-use Rattle.turns.proofs.fed.Statement.{statement}
-use Rattle.turns.proofs.fed.Tie as tie
+use Rattle.turns.proofs.fed.Goals as goal
 
-returns : tie.Need-returns
-returns c =
-    let a = c.before.before.before.args in
+pub returns-then-left-ge-PAIR_SIZE : goal.returns-then-left-ge-PAIR_SIZE
+returns-then-left-ge-PAIR_SIZE g c =
+    let a = c.args in
     let left = a.t.end - a.t.start in
     record {
       fine = search rules;
@@ -22,43 +21,40 @@ returns c =
       refused = search rules;
     }
 
-returns-2 : tie.Need-returns-2
-returns-2 c =
-    let read = c.before.before.before.before.before in
-    let shifted = read.before.before.before.before in
-    let start = shifted.before.before.before.before.before.before in
-    let a = start.args in
+pub returns-in-Ok : goal.returns-in-Ok
+returns-in-Ok g c =
+    let a = c.args in
     let left = a.t.end - a.t.start in
-    let front = shifted.shift.new.0 in
+    let front = c.shift.new.buf in
     let bytes = unread a.input.now a.t in
     let size : length bytes ≡ left =
     omega (arith, length-take left (drop a.t.start a.input.now), length-drop a.t.start a.input.now) in
     record {
       fine = search rules;
       kept =
-          kept-before front read.read.new.1.0 left (length front - left) (left + c.count.result - 0) (search rules) (omega arith)
-          ∙ ap (take left) shifted.shift.ensures
+          kept-before front c.read.new.buf left (length front - left) (left + c.in-Ok.more - 0) (search rules) (omega arith)
+          ∙ ap (take left) c.shift.ensures
           ∙ paste_begins a.input.now bytes left size;
       filled = search rules;
       calls = search rules;
       refused = search rules;
     }
 
-pub fed-spec : {M : Type 1} → statement M
-fed-spec =
-    tie.close
-    (tie.spec
-    (λ c. search rules)
-    returns
-    (λ c κs. search rules)
-    (λ c. search rules)
-    (λ c. search rules)
-    (λ c. search rules)
-    (λ c κs. search rules)
-    (λ c. search rules)
-    (λ c. search rules)
-    (λ c. search rules)
-    (λ c κs. search rules)
-    (λ c. search rules)
-    (λ c. search rules)
-    returns-2)
+pub returns-in-Err : goal.returns-in-Err
+returns-in-Err g c =
+    let a = c.args in
+    let left = a.t.end - a.t.start in
+    let front = c.shift.new.buf in
+    let bytes = unread a.input.now a.t in
+    let size : length bytes ≡ left =
+    omega (arith, length-take left (drop a.t.start a.input.now), length-drop a.t.start a.input.now) in
+    record {
+      fine = search rules;
+      kept =
+          kept-before front c.read.new.buf left (length front - left) (left - 0) (search rules) (omega arith)
+          ∙ ap (take left) c.shift.ensures
+          ∙ paste_begins a.input.now bytes left size;
+      filled = search rules;
+      calls = search rules;
+      refused = search rules;
+    }
