@@ -13,7 +13,7 @@ use Rattle.table_image.specs.Layout.{image_of, sound_image, image_size}
 use Rattle.call_outcomes.specs.Leaving.{call_made}
 use Rattle.call_outcomes.specs.Fresh.{fresh_of}
 use Rattle.fates_book.specs.declared.Line.{Line}
-use Rattle.fates_register.specs.Register.{blank, entered, entered_all}
+use Rattle.fates_register.specs.Register.{blank, entered_all}
 use Rattle.fates_register.proofs.Laws.{entered_append}
 use Rattle.promises.specs.History.{said_by, lines}
 use Rattle.promises.specs.Harness.{Lending, image_after, heard, Harness, heard_in, next_in, and_then}

@@ -4,7 +4,6 @@ use native.Mathlib.Omega.{arith}
 use Prim.Native.Nat.{ℕ}
 use mathlib.Core.Path.{◌≡◌, sym, ap, subst, ◌∙◌}
 use mathlib.Core.List.{List}
-use borrow.Author.Rules.{rules}
 use Rattle.octets.proofs.Writing.{wrote-same}
 use Rattle.call_outcomes.specs.Leaving.{Left, token_in, call_made}
 use Rattle.call_outcomes.proofs.Rooms.{SameBack, made_in}

@@ -1,13 +1,5 @@
 -- Each turn leaves what the next one asks, and one fewer is left.
-use native.Mathlib.Omega.{arith}
-use Prim.Native.Nat.{ℕ}
-use mathlib.Core.Path.{◌≡◌}
-use mathlib.Core.List.{List}
-use lib.ListN.{length}
 use borrow.Author.Rules.{rules}
-use Rattle.turns.specs.declared.Turn.{Turn}
-use Rattle.fates.specs.Turns.{Kept}
-use Rattle.fates.proofs.run.Invariants.{Turning}
 use Rattle.fates.proofs.run.Goals as goal
 
 pub one_turn-t-requires : goal.one_turn-t-requires
