@@ -32,7 +32,7 @@ returns c =
     let lines = same_lines a.bytes.now _ made same in
     let told = c.tell_call.ensures in
     let entered = told.entered ∙ ap (λ (ys : List Line). entered_all ys register) lines in
-    let next = told-next a.table.now register a.bytes.now c.requires.told (λ k. omega (arith, c.shared_slice_known-1.given k)) in
+    let next = told-next a.table.now register a.bytes.now c.requires.told (λ k. omega (arith, c.type_inv.bytes k)) in
     record {
       told = rw (same.image, entered) next;
       image = same.image;

@@ -17,7 +17,7 @@ returns c =
     let made = call_made a.table.now a.bytes.now in
     let same =
     subst (λ (l : Left). SameBack l made) (sym c.call_sound-answer.ensures) (made_in a.table.now a.bytes.now a.room.now c.requires.roomy) in
-    let kept = call_keeps a.table.now a.bytes.now (replicate frame_room_size 0) c.requires.sound (λ j. omega (arith, c.shared_slice_known-1.given j)) in
+    let kept = call_keeps a.table.now a.bytes.now (replicate frame_room_size 0) c.requires.sound (λ j. omega (arith, c.type_inv.bytes j)) in
     record {
       image = same.image;
       sound = ap sound_image same.image ∙ kept;

@@ -27,7 +27,7 @@ returns c =
     let made = call_made a.table.now a.bytes.now in
     let same =
     subst (λ (l : Left). SameBack l made) (sym c.call_sound-answer.ensures) (made_in a.table.now a.bytes.now a.room.now c.requires.roomy) in
-    let kept = call_keeps a.table.now a.bytes.now (replicate frame_room_size 0) c.requires.sound (λ k. omega (arith, c.shared_slice_known-1.given k)) in
+    let kept = call_keeps a.table.now a.bytes.now (replicate frame_room_size 0) c.requires.sound (λ k. omega (arith, c.type_inv.bytes k)) in
     record {
       image = same.image;
       sound = ap sound_image same.image ∙ kept;

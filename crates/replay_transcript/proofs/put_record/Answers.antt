@@ -16,18 +16,18 @@ put_pair-a-requires c =
 
 pub put_shown-b-requires : goal.put_shown-b-requires
 put_shown-b-requires c =
-    let line = line-most c.args.r.now (λ k. omega (arith, c.shared_slice_known-1.given k)) in
+    let line = line-most c.args.r.now (λ k. omega (arith, c.type_inv.r k)) in
     rw c.shown.ensures (omega (arith, c.requires, line, c.put_pair-a.ensures.few))
 
 pub put_word-requires : goal.put_word-requires
 put_word-requires c =
-    let line = line-most c.args.r.now (λ k. omega (arith, c.shared_slice_known-1.given k)) in
+    let line = line-most c.args.r.now (λ k. omega (arith, c.type_inv.r k)) in
     omega (arith, c.requires, line, ap length c.shown.ensures, c.put_pair-a.ensures.few, c.put_shown-b.ensures.few)
 
 pub returns : goal.returns
 unfolding record_line
 returns c =
-    let line = line-most c.args.r.now (λ k. omega (arith, c.shared_slice_known-1.given k)) in
+    let line = line-most c.args.r.now (λ k. omega (arith, c.type_inv.r k)) in
     let paired = wrote_of c.put_pair-a.ensures in
     let fielded = wrote_of c.put_shown-b.ensures in
     rw (← c.byte_at-kind.ensures, ← c.byte_at-stream.ensures, ← c.shown.ensures)

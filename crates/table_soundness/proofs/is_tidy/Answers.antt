@@ -17,14 +17,14 @@ pub returns-then-img-gt1 : goal.returns-then-img-gt1
 unfolding tidy
 returns-then-img-gt1 c =
     let img = c.args.img.now in
-    let bytes : are_bytes img ≡ true = to_are_bytes img (λ k. omega (arith, c.shared_slice_known-1.given k)) in
+    let bytes : are_bytes img ≡ true = to_are_bytes img (λ k. omega (arith, c.type_inv.img k)) in
     simp (eq-eqb (length img) image_size c.if-img-ne-IMAGE_SIZE.false, bytes, lt-leb (get_or img memory_offset 0) 1 c.if-img-gt1.true)
 
 pub returns-then-not-are_places_tidy : goal.returns-then-not-are_places_tidy
 unfolding tidy
 returns-then-not-are_places_tidy c =
     let img = c.args.img.now in
-    let bytes : are_bytes img ≡ true = to_are_bytes img (λ k. omega (arith, c.shared_slice_known-1.given k)) in
+    let bytes : are_bytes img ≡ true = to_are_bytes img (λ k. omega (arith, c.type_inv.img k)) in
     let memory = le-leb (get_or img memory_offset 0) 1 c.if-img-gt1.false in
     simp (eq-eqb (length img) image_size c.if-img-ne-IMAGE_SIZE.false, bytes, memory, sym c.are_places_tidy.ensures ∙ c.if-not-are_places_tidy.true)
 
@@ -32,7 +32,7 @@ pub returns : goal.returns
 unfolding tidy
 returns c =
     let img = c.args.img.now in
-    let bytes : are_bytes img ≡ true = to_are_bytes img (λ k. omega (arith, c.shared_slice_known-1.given k)) in
+    let bytes : are_bytes img ≡ true = to_are_bytes img (λ k. omega (arith, c.type_inv.img k)) in
     let memory = le-leb (get_or img memory_offset 0) 1 c.if-img-gt1.false in
     let places = sym c.are_places_tidy.ensures ∙ c.if-not-are_places_tidy.false in
     simp (eq-eqb (length img) image_size c.if-img-ne-IMAGE_SIZE.false, bytes, memory, places) c.are_slots_tidy.ensures

@@ -19,11 +19,11 @@ loop-i-init c =
 
 pub digit-requires : goal.digit-requires
 digit-requires c =
-    omega (arith, c.shared_slice_known-in-loop-i-1.given c.loop-i.i)
+    omega (arith, c.type_inv.bytes c.loop-i.i)
 
 pub digit-requires-in-loop-i : goal.digit-requires-in-loop-i
 digit-requires-in-loop-i c =
-    omega (arith, c.shared_slice_known-in-loop-i-1.given c.loop-i.i)
+    omega (arith, c.type_inv.bytes c.loop-i.i)
 
 pub loop-i-preserved : goal.loop-i-preserved
 loop-i-preserved c =
