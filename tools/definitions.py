@@ -195,7 +195,7 @@ def main():
     failed = [name for name in names if not claims[name] or name in refused]
     for name in failed:
         print(f"{name}: the definitions do not print it")
-    if status != 0 and not failed:
+    if status != 0 and not refused & set(names):
         print(f"{output[-2000:]}the definitions could not be checked")
         failed = names
     print(f"{len(names) - len(failed)} passed, {len(failed)} failed")

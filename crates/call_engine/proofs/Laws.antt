@@ -9,7 +9,7 @@ use Rattle.ledger.specs.Choice.{◌⇒◌∣◌}
 use Rattle.ledger.proofs.Tallies.{both_of, skip}
 use Rattle.paper.specs.Base.{stream}
 use Rattle.paper.specs.RecordsIn.{input_of}
-use Rattle.paper.specs.Refusals.{little_room, not_aRecord, refused}
+use Rattle.paper.specs.Refusals.{little_room, not_a_record, refused}
 use Rattle.paper.specs.Sound.{sound}
 use Rattle.paper.specs.StateRows.{state_rows}
 use Rattle.paper.specs.Step.{serve_by, is_readable, step_by}
@@ -110,7 +110,7 @@ read_whole r q e = subst (λ (q : Input). least_size q ≤ length r) e (read-lon
 -- on a sound image it is what the record comes to
 pub call-on : (img r room : List ℕ) → sound_image img ≡ true
     → leaving img room
-    (not (is_readable (input_of r)) ⇒ refused (table_of img) not_aRecord
+    (not (is_readable (input_of r)) ⇒ refused (table_of img) not_a_record
     ∣ ltb (length room) (room_for (input_of r)) ⇒ refused (table_of img) little_room
     ∣ serve_by state_rows (table_of img) r (input_of r))
     ≡ call_of img r room

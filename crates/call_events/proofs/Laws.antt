@@ -8,7 +8,7 @@ use lib.ListN.{length}
 use borrow.Author.Tests.{ltb-true}
 use Rattle.ledger.specs.Choice.{◌⇒◌∣◌}
 use Rattle.paper.specs.Base.{Table, slot, stream, waiting}
-use Rattle.paper.specs.Refusals.{Outcome, not_aRecord, refused}
+use Rattle.paper.specs.Refusals.{Outcome, not_a_record, refused}
 use Rattle.paper.specs.StateRows.{state_rows, found, is_found}
 use Rattle.paper.specs.Sight.{nothing, brings, letter_of, answer_to, sight_by}
 use Rattle.paper.specs.Effects.{event_effect}
@@ -91,7 +91,7 @@ pub not-read : (t : Table) (r : List ℕ) (q : Input) → ((p : PpaNumber) (sap 
     → ((i : ℕ) (reason : ℕ) → q ≡ input.PeerGone i reason → ⊥)
     → ((i : ℕ) (n : Correlation) (reason : ℕ) → q ≡ input.CallWithdrawn i n reason → ⊥)
     → ((i : ℕ) (reason : ℕ) → q ≡ input.PeerReset i reason → ⊥)
-    → ((i : ℕ) → q ≡ input.ResetConfirmed i → ⊥) → is_of_line q ≡ true → refused t not_aRecord ≡ serve_by state_rows t r q
+    → ((i : ℕ) → q ≡ input.ResetConfirmed i → ⊥) → is_of_line q ≡ true → refused t not_a_record ≡ serve_by state_rows t r q
 not-read t r input.Unreadable n1 n2 n3 n4 n5 n6 h = refl
 not-read t r input.Malformed n1 n2 n3 n4 n5 n6 h = refl
 not-read t r (input.AddPpa p) n1 n2 n3 n4 n5 n6 h = absurd (false≢true h)

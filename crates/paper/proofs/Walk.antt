@@ -13,7 +13,7 @@ use Rattle.ledger.proofs.Tallies.{both_of, chosen, skip}
 use Rattle.paper.specs.Base.{closed, just_opened, Table, slot, stream, lowest_free, token_of, knows, mac_at, with_slot, with_ppa, remembering, stream_total, most_ppas}
 use Rattle.paper.specs.RecordsIn.{most_data, input_of, mac_in, message_in}
 use Rattle.paper.specs.RecordsOut.{up, in_order}
-use Rattle.paper.specs.Refusals.{little_room, not_open, all_open, no_code, over_long, unexpected, nobody_there, busy, no_new_ppa, not_aRecord, not_sound, Outcome, refused, served, served_opening}
+use Rattle.paper.specs.Refusals.{little_room, not_open, all_open, no_code, over_long, unexpected, nobody_there, busy, no_new_ppa, not_a_record, not_sound, Outcome, refused, served, served_opening}
 use Rattle.paper.specs.Saps.{listener, is_listened_for}
 use Rattle.paper.specs.Correlations.{next_number}
 use Rattle.paper.specs.Sound.{sound}
@@ -180,8 +180,8 @@ module _ (rows : List StateRow) (t : Table) where
     -- each kind of record in, as `serve_by` reads
     pub walk : (q : Input) → Way rows t r q (serve_by rows t r q)
     unfolding adds_ppa opens closes message arrives is_listened_for frames
-    walk input.Unreadable = no not_aRecord refl
-    walk input.Malformed = no not_aRecord refl
+    walk input.Unreadable = no not_a_record refl
+    walk input.Malformed = no not_a_record refl
     walk (input.AddPpa p) = _ ⟹ no no_new_ppa refl ∣ (λ n. _ ⟹ no no_new_ppa refl ∣ (λ f. _ ⟹ no no_new_ppa refl ∣ (λ w.
         adding (record { never_opened = n; few = leb-false _ _ f; new = w }))))
     walk input.Open = chosen (Way rows t r input.Open) _ _ _ (λ f. opening (ltb-true _ _ f)) (λ _. no all_open refl)
@@ -210,7 +210,7 @@ module _ (rows : List StateRow) (t : Table) where
           → (is_readable (input_of r) ≡ true → room_for (input_of r) ≤ room → P (serve_by rows t r (input_of r))) → P (step_by rows t r room)
       unfolding step_by ◌⇒◌∣◌
       step_by_lem P e f g =
-          rw e (chosen P _ _ _ (λ _. f not_aRecord (omega arith) (omega arith))
+          rw e (chosen P _ _ _ (λ _. f not_a_record (omega arith) (omega arith))
           (λ a. chosen P _ _ _ (λ _. f little_room (omega arith) (omega arith)) (λ b. g (not-false _ a) (ltb-false _ _ b))))
 
       -- Every call on a sound table goes one of the ways.

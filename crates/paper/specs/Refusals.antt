@@ -41,8 +41,8 @@ no_new_ppa = 9
 
 -- no bytes, unknown kind or cut body, or nonzero padding with L at most 96; 0x07 without its M, an M by itself, an address
 -- length not 7 or 8, or nonzero padding of a datagram or frame
-abbrev pub not_aRecord : ℕ
-not_aRecord = 10
+abbrev pub not_a_record : ℕ
+not_a_record = 10
 
 -- a table that isn't sound
 abbrev pub not_sound : ℕ

@@ -6,7 +6,7 @@ use Rattle.octets.specs.Runs.{same_bytes}
 use Rattle.octets.specs.Blocks.{block_size}
 use Rattle.paper.specs.Base.{mac_size, Table, slot, knows, mac_of}
 use Rattle.paper.specs.RecordsIn.{most_data, input_of, mac_in, called_in, message_in}
-use Rattle.paper.specs.Refusals.{little_room, not_open, no_code, over_long, unexpected, nobody_there, busy, not_aRecord, not_sound, Outcome, refused, served}
+use Rattle.paper.specs.Refusals.{little_room, not_open, no_code, over_long, unexpected, nobody_there, busy, not_a_record, not_sound, Outcome, refused, served}
 use Rattle.paper.specs.Saps.{listener, is_listened_for}
 use Rattle.paper.specs.Correlations.{next_number}
 use Rattle.paper.specs.Sound.{sound}
@@ -57,8 +57,8 @@ arrives rows t p sap r =
 
 -- record r by what was read, in room enough (what is unreadable has been refused before)
 abbrev pub serve_by : List StateRow → Table → List ℕ → Input → Outcome
-serve_by rows t r input.Unreadable = refused t not_aRecord
-serve_by rows t r input.Malformed = refused t not_aRecord
+serve_by rows t r input.Unreadable = refused t not_a_record
+serve_by rows t r input.Malformed = refused t not_a_record
 serve_by rows t r (input.AddPpa p) = adds_ppa t p (mac_in r)
 serve_by rows t r input.Open = opens t
 serve_by rows t r (input.Close i) = of_open t i (closes t i)
@@ -90,7 +90,7 @@ is_readable (input.Frame f) = true
 unfoldable pub step_by : List StateRow → Table → List ℕ → ℕ → Outcome
 step_by rows t r room =
     not (sound t) ⇒ refused t not_sound
-    ∣ not (is_readable (input_of r)) ⇒ refused t not_aRecord
+    ∣ not (is_readable (input_of r)) ⇒ refused t not_a_record
     ∣ ltb room (room_for (input_of r)) ⇒ refused t little_room
     ∣ serve_by rows t r (input_of r)
 
