@@ -6,7 +6,7 @@ use mathlib.Core.List.{List, [], ◌∷◌, ◌++◌}
 use lib.ListN.{length, get_or}
 use lib.Dec.{eqb, ltb, leb}
 use native.Mathlib.Omega.{arith}
-use borrow.Author.Tests.{not-false, not-true, ne_eqb, eq-eqb, eqb-true, eqb-false, ltb-true, ltb-false, lt-leb, le-leb, leb-true, leb-false}
+use borrow.Author.Tests.{ne_eqb, eq-eqb, eqb-true, eqb-false, ltb-true, ltb-false, lt-leb, le-leb, leb-true, leb-false}
 use mathlib.Core.Logic.{◌≢◌}
 use Rattle.ledger.specs.Choice.{pick, ◌⇒◌∣◌, both, either}
 use Rattle.ledger.specs.Tally.{one_if, occ, has, without, sum_of, all_of, ascending, first_of}
@@ -62,13 +62,6 @@ pub same_test : (a b : Bool) → (a ≡ true → b ≡ true) → (b ≡ true →
 same_test true b f g = sym (f refl)
 same_test false true f g = g refl
 same_test false false f g = refl
-
--- what an answer tells of the test that it gives, where the code asks for its opposite
-pub test_held : {r b : Bool} → r ≡ b → not r ≡ false → b ≡ true
-test_held {r} e h = sym e ∙ not-false r h
-
-pub test_failed : {r b : Bool} → r ≡ b → not r ≡ true → b ≡ false
-test_failed {r} e h = sym e ∙ not-true r h
 
 -- numbers that differ fail the test, whichever comes first
 pub differs : (k n : ℕ) → (n ≡ k → ⊥) → eqb k n ≡ false

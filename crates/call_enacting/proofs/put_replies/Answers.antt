@@ -25,5 +25,5 @@ unfolding ups_in
 returns-in-Says c =
     let a = c.args in
     let r = c.in-Says.reply in
-    let record-up = up a.i r (behind_reply (mac_at (table_of a.img.now) a.i) a.r.now r) in
-    rw c.in-Says.is (one_wrote record-up record-up refl c.put_reply.ensures)
+    let record_up = up a.i r (behind_reply (mac_at (table_of a.img.now) a.i) a.r.now r) in
+    rw c.in-Says.is (one_wrote record_up record_up refl c.put_reply.ensures)

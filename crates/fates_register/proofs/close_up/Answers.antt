@@ -1,14 +1,11 @@
 -- A cell that is done is done as in the whole run, so the cells left lead to the same register.
 use native.Mathlib.Omega.{arith}
-use mathlib.Core.Path.{◌≡◌, refl, sym, ap, ◌∙◌}
+use mathlib.Core.Path.{◌≡◌, sym, ap, ◌∙◌}
 use Prim.Native.Nat.{ℕ}
 use lib.ListN.{length-set}
 use Rattle.fates_register.specs.Register.{close_up}
 use Rattle.fates_register.proofs.Laws.{close_on}
 use Rattle.fates_register.proofs.close_up.Goals as goal
-
-pub loop-left-init : goal.loop-left-init
-loop-left-init c = record { same = refl; stands = omega arith; long = refl }
 
 pub loop-left-preserved : goal.loop-left-preserved
 loop-left-preserved c =

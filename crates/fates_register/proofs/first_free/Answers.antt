@@ -1,6 +1,6 @@
 -- A place that is passed gives no answer, so the places left to look at give that of all.
 use native.Mathlib.Omega.{arith}
-use mathlib.Core.Path.{◌≡◌, refl, sym, ap, ◌∙◌}
+use mathlib.Core.Path.{◌≡◌, sym, ap, ◌∙◌}
 use Prim.Native.Nat.{ℕ}
 use mathlib.Core.Bool.{true, false}
 use borrow.Author.Tests.{eq-eqb, ne_eqb}
@@ -8,9 +8,6 @@ use Rattle.ledger.specs.Choice.{◌⇒◌∣◌}
 use Rattle.fates_register.specs.Register.{free_from}
 use Rattle.fates_register.proofs.Laws.{free_on}
 use Rattle.fates_register.proofs.first_free.Goals as goal
-
-pub loop-left-init : goal.loop-left-init
-loop-left-init c = record { same = refl; most = omega arith; stands = omega arith }
 
 pub returns-then-register-c-eq0 : goal.returns-then-register-c-eq0
 unfolding ◌⇒◌∣◌

@@ -1,15 +1,12 @@
 -- A place that is passed gives no answer, so the places left to look at give that of all.
 use native.Mathlib.Omega.{arith}
-use mathlib.Core.Path.{◌≡◌, refl, sym, ap, ◌∙◌}
+use mathlib.Core.Path.{◌≡◌, sym, ap, ◌∙◌}
 use Prim.Native.Nat.{ℕ}
 use mathlib.Core.Bool.{true, false}
 use Rattle.ledger.specs.Choice.{◌⇒◌∣◌}
 use Rattle.fates_register.specs.Register.{find_from}
 use Rattle.fates_register.proofs.Laws.{find_on}
 use Rattle.fates_register.proofs.place_of.Goals as goal
-
-pub loop-left-init : goal.loop-left-init
-loop-left-init c = record { same = refl; most = omega arith; stands = omega arith }
 
 pub returns-then-holds : goal.returns-then-holds
 unfolding ◌⇒◌∣◌

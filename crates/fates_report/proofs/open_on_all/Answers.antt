@@ -5,9 +5,6 @@ use Rattle.paper.specs.Base.{stream_total}
 use Rattle.fates_report.proofs.Laws.{sum_end, sum_next}
 use Rattle.fates_report.proofs.open_on_all.Goals as goal
 
-pub loop-i-init : goal.loop-i-init
-loop-i-init c = record { within = omega arith; few = omega arith; whole = omega arith }
-
 pub loop-i-preserved : goal.loop-i-preserved
 loop-i-preserved c =
     let g = c.args.register.now in

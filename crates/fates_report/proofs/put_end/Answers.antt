@@ -16,7 +16,7 @@ returns-then-register-i-eq0 c =
 pub returns : goal.returns
 unfolding end_text ◌⇒◌∣◌
 returns c =
-    let open-ones = c.put_still_open-a.ensures in
+    let open_ones = c.put_still_open-a.ensures in
     let line = c.put_opening.ensures in
     rw (ne_eqb _ _ c.if-register-i-eq0.false)
-    (wrote-most (omega (arith, open-ones.few, line.few)) (wrote_then (search rules) (wrote_of open-ones) (wrote_of line)))
+    (wrote-most (omega (arith, open_ones.few, line.few)) (wrote_then (search rules) (wrote_of open_ones) (wrote_of line)))

@@ -13,9 +13,9 @@ pub returns : goal.returns
 returns c =
     let fits : c.args.at ≤ length c.args.out.now = omega (arith, c.requires.of.on.lent.room) in
     let to_stream = wrote_then fits c.put_word-a.ensures (wrote_of c.put_spaced-b.ensures) in
-    let to-opening = wrote_then fits to_stream (wrote_of c.put_numbers-d.ensures) in
-    let to_number = wrote_then fits to-opening (wrote_of c.put_numbers-e.ensures) in
-    let to-fate = wrote_then fits to_number c.put_word-f.ensures in
+    let to_opening = wrote_then fits to_stream (wrote_of c.put_numbers-d.ensures) in
+    let to_number = wrote_then fits to_opening (wrote_of c.put_numbers-e.ensures) in
+    let to_fate = wrote_then fits to_number c.put_word-f.ensures in
     wrote-most (omega (
       arith,
       c.requires.short,
@@ -25,4 +25,4 @@ returns c =
       c.put_numbers-e.ensures.few,
       c.put_word-f.ensures.ends,
       c.put_word.ensures.ends,
-    )) (wrote_then fits to-fate c.put_word.ensures)
+    )) (wrote_then fits to_fate c.put_word.ensures)

@@ -12,8 +12,8 @@ returns c =
     let fits : c.args.at ≤ length c.args.out.now = omega (arith, c.requires.lent.room) in
     let same : c.open_on.result ≡ open_on c.args.i c.args.register.now = c.open_on.ensures.is in
     let to_stream = wrote_then fits c.put_word-a.ensures (wrote_of c.put_spaced-b.ensures) in
-    let to-counts = wrote_then fits to_stream (wrote_of c.put_numbers-d.ensures) in
-    let to-open = wrote_then fits to-counts (wrote_of c.put_spaced-e.ensures) in
+    let to_counts = wrote_then fits to_stream (wrote_of c.put_numbers-d.ensures) in
+    let to_open = wrote_then fits to_counts (wrote_of c.put_spaced-e.ensures) in
     rw (← same) (wrote-most (omega (
       arith,
       c.put_word-a.ensures.ends,
@@ -21,4 +21,4 @@ returns c =
       c.put_numbers-d.ensures.few,
       c.put_spaced-e.ensures.few,
       c.put_word.ensures.ends,
-    )) (wrote_then fits to-open c.put_word.ensures))
+    )) (wrote_then fits to_open c.put_word.ensures))

@@ -1,13 +1,10 @@
 -- After i turns `any` is 0 exactly if the first i bytes are.
 use borrow.Author.Rules.{rules}
 use mathlib.Core.Bool.{and-true}
-use mathlib.Core.Path.{refl, ◌∙◌}
+use mathlib.Core.Path.{◌∙◌}
 use lib.ListN.{drop_of_length-le}
 use Rattle.octets.proofs.Runs.{zero_more}
 use Rattle.octets.proofs.is_zero.Goals as goal
-
-pub loop-i-init : goal.loop-i-init
-loop-i-init c = (search rules, refl)
 
 pub loop-i-preserved : goal.loop-i-preserved
 loop-i-preserved c =

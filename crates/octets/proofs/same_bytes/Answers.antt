@@ -3,7 +3,7 @@ use borrow.Author.Rules.{rules}
 use native.Mathlib.Numerals.{add-one}
 use Prim.Native.Nat.{ℕ, ◌≤◌, ◌<◌}
 use mathlib.Core.List.{List}
-use mathlib.Core.Path.{◌≡◌, refl, sym, ap, ◌∙◌}
+use mathlib.Core.Path.{◌≡◌, sym, ap, ◌∙◌}
 use lib.ListN.{length, get_or}
 use lib.Seq.{take-suc, take_all}
 use Rattle.octets.proofs.Runs.{same_self, same_not}
@@ -13,9 +13,6 @@ pub returns-then-a-b : goal.returns-then-a-b
 returns-then-a-b c =
     let g = c.args in
     sym (same_not g.a.now g.b.now (λ e. c.if-a-b.true (ap length e)))
-
-pub loop-i-init : goal.loop-i-init
-loop-i-init c = (search rules, refl)
 
 pub returns-then-a-i : goal.returns-then-a-i
 returns-then-a-i c =

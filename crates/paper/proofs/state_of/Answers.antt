@@ -35,19 +35,19 @@ returns-in-13 c = rw c.in-13.is
 pub returns-in_default : goal.returns-in_default
 unfolding state_of ◌⇒◌∣◌
 returns-in_default c =
-    let not-13 = c.in_default.in_default-own.rest in
-    let not-12 = not-13.0 in
-    let not-11 = not-12.0 in
-    let not-9 = not-11.0 in
-    let not-8 = not-9.0 in
-    let not-6 = not-8.0 in
-    let not-3 = not-6.0 in
+    let not_13 = c.in_default.in_default-own.rest in
+    let not_12 = not_13.0 in
+    let not_11 = not_12.0 in
+    let not_9 = not_11.0 in
+    let not_8 = not_9.0 in
+    let not_6 = not_8.0 in
+    let not_3 = not_6.0 in
     simp (
-      ne_eqb _ 3 not-3.1,
-      ne_eqb _ 6 not-6.1,
-      ne_eqb _ 8 not-8.1,
-      ne_eqb _ 9 not-9.1,
-      ne_eqb _ 11 not-11.1,
-      ne_eqb _ 12 not-12.1,
-      ne_eqb _ 13 not-13.1,
+      ne_eqb _ 3 not_3.1,
+      ne_eqb _ 6 not_6.1,
+      ne_eqb _ 8 not_8.1,
+      ne_eqb _ 9 not_9.1,
+      ne_eqb _ 11 not_11.1,
+      ne_eqb _ 12 not_12.1,
+      ne_eqb _ 13 not_13.1,
     )

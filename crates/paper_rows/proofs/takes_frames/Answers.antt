@@ -8,13 +8,13 @@ use Rattle.ledger.proofs.Tallies.{by_same, differs}
 use Rattle.paper.specs.StateRows.{frame_arrives, seat, stays, found_in, found, is_found}
 use Rattle.paper_rows.proofs.takes_frames.Goals as goal
 
-in-six : (mode : ℕ) → eqb mode 2 ≡ is_found (found_in (stays frame_arrives (seat 6 2) ∷ []) 6 mode frame_arrives)
-in-six mode = by_same mode 2 (λ e. simp e) (λ e. simp (ne_eqb _ _ e, differs 2 _ e))
+in_six : (mode : ℕ) → eqb mode 2 ≡ is_found (found_in (stays frame_arrives (seat 6 2) ∷ []) 6 mode frame_arrives)
+in_six mode = by_same mode 2 (λ e. simp e) (λ e. simp (ne_eqb _ _ e, differs 2 _ e))
 
 pub returns-then-number_of-eq6 : goal.returns-then-number_of-eq6
 unfolding found
 returns-then-number_of-eq6 c =
-    rw (← c.number_of.ensures, c.if-number_of-eq6.true) (in-six c.args.s.mode)
+    rw (← c.number_of.ensures, c.if-number_of-eq6.true) (in_six c.args.s.mode)
 
 pub returns-else-number_of-eq6 : goal.returns-else-number_of-eq6
 unfolding found

@@ -34,8 +34,8 @@ next_of out₀ at n rs out e i (suc k) size e' out' h f a u s w =
     }
 
 -- the bytes from a place on, as they are lent
-lent-whole : (rs : List ℕ) (i : ℕ) → take (length rs - i) (drop i rs) ≡ drop i rs
-lent-whole rs i = take_all (length rs - i) (drop i rs) (omega (arith, length-drop i rs))
+lent_whole : (rs : List ℕ) (i : ℕ) → take (length rs - i) (drop i rs) ≡ drop i rs
+lent_whole rs i = take_all (length rs - i) (drop i rs) (omega (arith, length-drop i rs))
 
 pub loop-i-init : goal.loop-i-init
 loop-i-init c =
@@ -52,7 +52,7 @@ pub put_record-e-requires : goal.put_record-e-requires
 put_record-e-requires c =
     let l = c.loop-i in
     let rs = c.args.rs.now in
-    rw (lent-whole rs l.i, kind_at rs l.i) (omega (arith, size-within (get_or rs l.i 0), l.invariant.few, l.invariant.long))
+    rw (lent_whole rs l.i, kind_at rs l.i) (omega (arith, size-within (get_or rs l.i 0), l.invariant.few, l.invariant.long))
 
 pub overflow_add-i : goal.overflow_add-i
 overflow_add-i c =
@@ -69,7 +69,7 @@ loop-i-preserved c =
     let a = c.args in
     let l = c.loop-i in
     let rs = a.rs.now in
-    let line = rw (lent-whole rs l.i) at c.put_record-e.ensures in
+    let line = rw (lent_whole rs l.i) at c.put_record-e.ensures in
     let left = l.invariant.left in
     let size = c.size_out-i.ensures in
     let sized = size-within (get_or rs l.i 0) in

@@ -7,9 +7,6 @@ use Rattle.paper.specs.Saps.{listens, listener}
 use Rattle.table_image.specs.Layout.{table_of}
 use Rattle.table_lookup.proofs.listener.Goals as goal
 
-pub loop-i-init : goal.loop-i-init
-loop-i-init c = (omega arith, omega arith)
-
 pub returns-then-listens_at : goal.returns-then-listens_at
 unfolding listener
 returns-then-listens_at c =

@@ -8,9 +8,6 @@ use Rattle.paper.specs.declared.Ppa.{Ppa}
 use Rattle.table_image.specs.Layout.{table_of}
 use Rattle.table_lookup.proofs.ppa_place.Goals as goal
 
-pub loop-i-init : goal.loop-i-init
-loop-i-init c = (omega arith, omega arith)
-
 pub returns-then-is_ppa : goal.returns-then-is_ppa
 returns-then-is_ppa c =
     first_hit (λ (q : Ppa). eqb q.number.0 c.args.p.0) no_ppa (table_of c.args.img.now).ppas c.loop-i.i

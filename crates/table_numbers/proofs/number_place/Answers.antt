@@ -7,9 +7,6 @@ use Rattle.paper.specs.Base.{waiting}
 use Rattle.table_image.specs.Layout.{table_of}
 use Rattle.table_numbers.proofs.number_place.Goals as goal
 
-pub loop-k-init : goal.loop-k-init
-loop-k-init c = (omega arith, omega arith)
-
 pub returns-then-n-c : goal.returns-then-n-c
 returns-then-n-c c =
     let a = c.args in

@@ -1,5 +1,5 @@
 -- After k turns the first k places are counted.
-use Rattle.std.proofs.Common.{◌≡◌, ◌+◌, eqb, get_or, drop, sym, ap, ◌∙◌, add-one, arith, drop_of_length-le, drop-cons, rules, eq-eqb, ne_eqb}
+use Rattle.std.proofs.Common.{◌≡◌, ◌+◌, eqb, get_or, drop, sym, ap, ◌∙◌, add-one, arith, drop_of_length-le, drop-cons, eq-eqb, ne_eqb}
 use Rattle.ledger.specs.Tally.{one_if, occ}
 use Rattle.ledger.proofs.Tallies.{occ-length}
 use Rattle.paper.specs.declared.Correlation.{Correlation}
@@ -7,9 +7,6 @@ use Rattle.paper.specs.Base.{waiting}
 use Rattle.table_image.specs.Layout.{table_of}
 use Rattle.table_numbers.proofs.occurs_on.Goals as goal
 use Rattle.table_numbers.proofs.occurs_on.Goals.{then-n-c, else-n-c}
-
-pub loop-k-init : goal.loop-k-init
-loop-k-init c = (search rules, omega arith)
 
 pub overflow_add-total : goal.overflow_add-total
 overflow_add-total c =

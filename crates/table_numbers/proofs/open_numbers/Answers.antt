@@ -1,6 +1,6 @@
 -- After i turns the numbers of the first i streams stand at the start of dst.
 use mathlib.Core.Path.{◌∙◌, sym}
-use Rattle.std.proofs.Common.{ℕ, ◌+◌, ◌≤◌, List, ◌++◌, length, take, drop, sym, refl, ap, ◌∙◌, append-nil, arith, drop_of_length-le, rules}
+use Rattle.std.proofs.Common.{ℕ, ◌+◌, ◌≤◌, List, ◌++◌, length, take, drop, sym, ap, ◌∙◌, append-nil, arith, drop_of_length-le, rules}
 use Rattle.paper.specs.Base.{Slot, waiting, closed}
 use Rattle.table_image.specs.Layout.{table_of}
 use Rattle.table_numbers.proofs.Laws.{copied_on}
@@ -8,9 +8,6 @@ use Rattle.octets.proofs.Runs.{paste-length}
 use Rattle.ledger.specs.Lists.{joined}
 use Rattle.paper.specs.Saps.{most_open}
 use Rattle.table_numbers.proofs.open_numbers.Goals as goal
-
-pub loop-i-init : goal.loop-i-init
-loop-i-init c = (search rules, search rules, search rules, refl)
 
 pub copy_numbers-requires : goal.copy_numbers-requires
 copy_numbers-requires c =

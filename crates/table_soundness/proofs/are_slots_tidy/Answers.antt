@@ -1,6 +1,6 @@
 -- The slots before i have passed.
 use Prim.Native.Nat.{ℕ, ◌+◌, ◌-◌, ◌<◌}
-use mathlib.Core.Path.{◌≡◌, refl, sym, ap, ◌∙◌}
+use mathlib.Core.Path.{◌≡◌, sym, ap, ◌∙◌}
 use mathlib.Core.List.{[]}
 use lib.ListN.{get_or}
 use native.Mathlib.Omega.{arith}
@@ -10,9 +10,6 @@ use Rattle.table_soundness.proofs.Slots.{slot-of_parts}
 use Rattle.ledger.proofs.Walks.{all_fails, all_on, all_ends}
 use Rattle.paper.specs.Base.{stream_total}
 use Rattle.table_soundness.proofs.are_slots_tidy.Goals as goal
-
-pub loop-i-init : goal.loop-i-init
-loop-i-init c = refl
 
 pub returns-then-not-is_slot_tidy : goal.returns-then-not-is_slot_tidy
 returns-then-not-is_slot_tidy c =

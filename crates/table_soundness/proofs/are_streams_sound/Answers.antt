@@ -1,14 +1,11 @@
 -- The streams before i have passed.
-use mathlib.Core.Path.{◌∙◌, sym, refl}
+use mathlib.Core.Path.{◌∙◌, sym}
 use native.Mathlib.Omega.{arith}
 use Rattle.paper.specs.Base.{closed}
 use Rattle.table_image.specs.Layout.{table_of}
 use Rattle.table_soundness.specs.Groups.{is_stream_sound}
 use Rattle.ledger.proofs.Walks.{all_fails, all_on, all_ends}
 use Rattle.table_soundness.proofs.are_streams_sound.Goals as goal
-
-pub loop-i-init : goal.loop-i-init
-loop-i-init c = refl
 
 pub returns-then-not-is_stream_sound : goal.returns-then-not-is_stream_sound
 returns-then-not-is_stream_sound c =

@@ -3,16 +3,12 @@ use Prim.Native.Nat.{◌<◌}
 use mathlib.Core.Path.{ap, ◌∙◌}
 use lib.ListN.{length}
 use native.Mathlib.Omega.{arith}
-use borrow.Author.Rules.{rules}
 use Rattle.ledger.specs.Tally.{one_if}
 use Rattle.ledger.proofs.Walks.{sum_on, sum_ends}
 use Rattle.paper.specs.Base.{closed}
 use Rattle.table_image.specs.Layout.{table_of}
 use Rattle.table_soundness.proofs.listeners_for.Invariants.{heard}
 use Rattle.table_soundness.proofs.listeners_for.Goals as goal
-
-pub loop-i-init : goal.loop-i-init
-loop-i-init c = (search rules, omega arith)
 
 pub loop-i-preserved : goal.loop-i-preserved
 loop-i-preserved c =

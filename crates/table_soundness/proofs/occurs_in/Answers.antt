@@ -9,9 +9,6 @@ use Rattle.ledger.proofs.Walks.{sum_on, sum_ends}
 use Rattle.table_soundness.proofs.occurs_in.Invariants.{is}
 use Rattle.table_soundness.proofs.occurs_in.Goals as goal
 
-pub loop-k-init : goal.loop-k-init
-loop-k-init c = (search rules, omega arith)
-
 pub loop-k-preserved : goal.loop-k-preserved
 loop-k-preserved c =
     let l = c.loop-k in

@@ -1,6 +1,6 @@
 -- The PPAs before k have passed.
 use Prim.Native.Nat.{ℕ, ◌<◌}
-use mathlib.Core.Path.{◌≡◌, refl, ap, ◌∙◌}
+use mathlib.Core.Path.{◌≡◌, ap, ◌∙◌}
 use lib.ListN.{length, get_or}
 use native.Mathlib.Omega.{arith}
 use borrow.Author.Tests.{lt-leb, le-leb}
@@ -11,9 +11,6 @@ use Rattle.table_image.specs.Layout.{table_of}
 use Rattle.table_soundness.proofs.Slots.{ppas_many}
 use Rattle.table_soundness.proofs.ppas_differ.Invariants.{once}
 use Rattle.table_soundness.proofs.ppas_differ.Goals as goal
-
-pub loop-k-init : goal.loop-k-init
-loop-k-init c = refl
 
 pub returns-then-ppas_with-gt1 : goal.returns-then-ppas_with-gt1
 returns-then-ppas_with-gt1 c =

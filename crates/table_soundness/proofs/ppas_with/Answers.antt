@@ -3,7 +3,6 @@ use Prim.Native.Nat.{◌≤◌, ◌<◌}
 use mathlib.Core.Path.{sym, ap, ◌∙◌}
 use lib.ListN.{length}
 use native.Mathlib.Omega.{arith}
-use borrow.Author.Rules.{rules}
 use Rattle.ledger.proofs.Tallies.{occ_sum}
 use Rattle.ledger.proofs.Walks.{sum_on, sum_ends}
 use Rattle.paper.specs.Base.{ppa_numbers}
@@ -11,9 +10,6 @@ use Rattle.table_image.specs.Layout.{table_of}
 use Rattle.table_soundness.proofs.Slots.{ppas_many}
 use Rattle.table_soundness.proofs.ppas_with.Invariants.{is}
 use Rattle.table_soundness.proofs.ppas_with.Goals as goal
-
-pub loop-k-init : goal.loop-k-init
-loop-k-init c = (search rules, omega arith)
 
 pub loop-k-preserved : goal.loop-k-preserved
 loop-k-preserved c =

@@ -35,19 +35,19 @@ returns-in-32 c = rw c.in-32.is
 pub returns-in_default : goal.returns-in_default
 unfolding other_code ◌⇒◌∣◌
 returns-in_default c =
-    let not-20 = c.in_default.in_default-own.rest in
-    let not-1f = not-20.0 in
-    let not-1e = not-1f.0 in
-    let not-1d = not-1e.0 in
-    let not-1b = not-1d.0 in
-    let not-15 = not-1b.0 in
-    let not-0a = not-15.0 in
+    let not_20 = c.in_default.in_default-own.rest in
+    let not_1f = not_20.0 in
+    let not_1e = not_1f.0 in
+    let not_1d = not_1e.0 in
+    let not_1b = not_1d.0 in
+    let not_15 = not_1b.0 in
+    let not_0a = not_15.0 in
     simp (
-      ne_eqb _ 10 not-0a.1,
-      ne_eqb _ 21 not-15.1,
-      ne_eqb _ 27 not-1b.1,
-      ne_eqb _ 29 not-1d.1,
-      ne_eqb _ 30 not-1e.1,
-      ne_eqb _ 31 not-1f.1,
-      ne_eqb _ 32 not-20.1,
+      ne_eqb _ 10 not_0a.1,
+      ne_eqb _ 21 not_15.1,
+      ne_eqb _ 27 not_1b.1,
+      ne_eqb _ 29 not_1d.1,
+      ne_eqb _ 30 not_1e.1,
+      ne_eqb _ 31 not_1f.1,
+      ne_eqb _ 32 not_20.1,
     )

@@ -55,30 +55,30 @@ returns-in-7 c = rw c.in-7.is
 pub returns-in_default : goal.returns-in_default
 unfolding primitive_of ◌⇒◌∣◌
 returns-in_default c =
-    let not-unitdata = c.in_default.in_default-own.rest in
-    let not-reset-res = not-unitdata.0 in
-    let not-reset = not-reset-res.0 in
-    let not-disconnect = not-reset.0 in
-    let not-token = not-disconnect.0 in
-    let not-connect-res = not-token.0 in
-    let not-connect = not-connect-res.0 in
-    let not-bind = not-connect.0 in
-    let not-unbind = not-bind.0 in
-    let not-detach = not-unbind.0 in
-    let not-attach = not-detach.0 in
-    let not-info = not-attach.0 in
+    let not_unitdata = c.in_default.in_default-own.rest in
+    let not_reset_res = not_unitdata.0 in
+    let not_reset = not_reset_res.0 in
+    let not_disconnect = not_reset.0 in
+    let not_token = not_disconnect.0 in
+    let not_connect_res = not_token.0 in
+    let not_connect = not_connect_res.0 in
+    let not_bind = not_connect.0 in
+    let not_unbind = not_bind.0 in
+    let not_detach = not_unbind.0 in
+    let not_attach = not_detach.0 in
+    let not_info = not_attach.0 in
     simp (
-      ne_eqb _ 0 not-info.1,
-      ne_eqb _ 11 not-attach.1,
-      ne_eqb _ 12 not-detach.1,
-      ne_eqb _ 2 not-unbind.1,
-      ne_eqb _ 1 not-bind.1,
-      ne_eqb _ 13 not-connect.1,
-      ne_eqb _ 15 not-connect-res.1,
-      ne_eqb _ 17 not-token.1,
-      ne_eqb _ 19 not-disconnect.1,
-      ne_eqb _ 23 not-reset.1,
-      ne_eqb _ 25 not-reset-res.1,
-      ne_eqb _ 7 not-unitdata.1,
+      ne_eqb _ 0 not_info.1,
+      ne_eqb _ 11 not_attach.1,
+      ne_eqb _ 12 not_detach.1,
+      ne_eqb _ 2 not_unbind.1,
+      ne_eqb _ 1 not_bind.1,
+      ne_eqb _ 13 not_connect.1,
+      ne_eqb _ 15 not_connect_res.1,
+      ne_eqb _ 17 not_token.1,
+      ne_eqb _ 19 not_disconnect.1,
+      ne_eqb _ 23 not_reset.1,
+      ne_eqb _ 25 not_reset_res.1,
+      ne_eqb _ 7 not_unitdata.1,
     )
     c.other_code.ensures

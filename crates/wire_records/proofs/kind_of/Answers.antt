@@ -60,30 +60,30 @@ pub returns-in_default : goal.returns-in_default
 unfolding kind_of ◌⇒◌∣◌
 returns-in_default c =
     let not_f = c.in_default.in_default-own.rest in
-    let not-M = not_f.0 in
-    let not-S = not-M.0 in
-    let not-R = not-S.0 in
-    let not-W = not-R.0 in
-    let not-D = not-W.0 in
-    let not-A = not-D.0 in
-    let not-I = not-A.0 in
-    let not-C = not-I.0 in
-    let not-P = not-C.0 in
-    let not-X = not-P.0 in
-    let not-O = not-X.0 in
-    let not-G = not-O.0 in
+    let not_M = not_f.0 in
+    let not_S = not_M.0 in
+    let not_R = not_S.0 in
+    let not_W = not_R.0 in
+    let not_D = not_W.0 in
+    let not_A = not_D.0 in
+    let not_I = not_A.0 in
+    let not_C = not_I.0 in
+    let not_P = not_C.0 in
+    let not_X = not_P.0 in
+    let not_O = not_X.0 in
+    let not_G = not_O.0 in
     simp (
-      ne_eqb _ 71 not-G.1,
-      ne_eqb _ 79 not-O.1,
-      ne_eqb _ 88 not-X.1,
-      ne_eqb _ 80 not-P.1,
-      ne_eqb _ 67 not-C.1,
-      ne_eqb _ 73 not-I.1,
-      ne_eqb _ 65 not-A.1,
-      ne_eqb _ 68 not-D.1,
-      ne_eqb _ 87 not-W.1,
-      ne_eqb _ 82 not-R.1,
-      ne_eqb _ 83 not-S.1,
-      ne_eqb _ 77 not-M.1,
+      ne_eqb _ 71 not_G.1,
+      ne_eqb _ 79 not_O.1,
+      ne_eqb _ 88 not_X.1,
+      ne_eqb _ 80 not_P.1,
+      ne_eqb _ 67 not_C.1,
+      ne_eqb _ 73 not_I.1,
+      ne_eqb _ 65 not_A.1,
+      ne_eqb _ 68 not_D.1,
+      ne_eqb _ 87 not_W.1,
+      ne_eqb _ 82 not_R.1,
+      ne_eqb _ 83 not_S.1,
+      ne_eqb _ 77 not_M.1,
       ne_eqb _ 102 not_f.1,
     )

@@ -2,7 +2,7 @@
 use Prim.Native.Nat.{◌≤◌}
 use native.Mathlib.Omega.{arith}
 use native.Mathlib.Numerals.{add-one}
-use mathlib.Core.Path.{◌≡◌, refl, sym, ap, ◌∙◌}
+use mathlib.Core.Path.{◌≡◌, sym, ap, ◌∙◌}
 use mathlib.Core.Bool.{true, false}
 use mathlib.Core.List.{List}
 use lib.ListN.{length, get_or, drop_of_length-le}
@@ -19,9 +19,6 @@ use Rattle.paper_rules.proofs.exclusions.excluded_in.Goals as goal
 -- what stands past the list's end
 abbrev past : Exclusion
 past = record { grounds = OddSap; which = Odd; first = 0; last = 0; place = Binding }
-
-pub loop-k-init : goal.loop-k-init
-loop-k-init c = record { inside = omega arith; left = refl }
 
 pub returns-then-excludes : goal.returns-then-excludes
 returns-then-excludes c =
