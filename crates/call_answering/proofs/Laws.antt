@@ -1,4 +1,5 @@
 -- What comes to a stream is decided by its state row: with the row known, the decision is what is enacted.
+use Rattle.std.proofs.Common.{Err, None, Ok, Option, Result, Some}
 use Prim.Native.Nat.{ℕ, ◌+◌, ◌<◌}
 use native.Mathlib.Numerals.{add-one}
 use native.Mathlib.Omega.{arith}
@@ -21,18 +22,11 @@ use Rattle.paper.specs.declared.Token.{Token}
 use Rattle.paper.specs.declared.Stream.{Stream}
 use Rattle.paper.specs.declared.Rule.{Rule}
 use Rattle.paper.specs.declared.Service.TheVariants as service
-use Rattle.paper.specs.declared.Verdict.{Verdict}
-use Rattle.paper.specs.declared.Verdict.TheVariants.{Serves, Fails}
 use Rattle.paper.specs.declared.Request.{Request}
-use Rattle.paper.specs.declared.Asked.TheVariants.{For, Wrong}
 use Rattle.paper.specs.declared.StateRow.{StateRow}
-use Rattle.paper.specs.declared.Found.{Found}
-use Rattle.paper.specs.declared.Found.TheVariants.{At, Missing}
 use Rattle.paper.specs.declared.Change.{Change}
 use Rattle.paper.specs.declared.Change.TheVariants.{Stays}
-use Rattle.paper.specs.declared.Telling.TheVariants.{Untold}
 use Rattle.paper.specs.declared.Reply.{Reply}
-use Rattle.paper.specs.declared.Saying.TheVariants.{Says}
 use Rattle.paper.specs.declared.Effect.{Effect}
 use Rattle.paper.proofs.Effects.{service_fits, error_fits}
 use Rattle.call_outcomes.specs.Takes.{takes}
@@ -40,6 +34,7 @@ use Rattle.call_outcomes.specs.Deciding.{outcome_of, Placed}
 use Rattle.call_outcomes.specs.declared.Decided.TheVariants.{Does}
 use Rattle.call_answering.specs.Judging.{RightlyJudged}
 use Rattle.call_answering.specs.declared.Judgement.{Judgement}
+use Rattle.paper.specs.declared.Service.{Service}
 
 module _ (t : Table) (i : ℕ) (came : List ℕ) (code : ℕ) where
   -- an effect, where stream c carries
@@ -47,31 +42,31 @@ module _ (t : Table) (i : ℕ) (came : List ℕ) (code : ℕ) where
   doing c e = outcome_of t came (Does i c e)
 
   -- an error is the same whoever would carry
-  error_enacted : (f : Found) (w : Question) (r : Rule) → doing i (error_effect code r) ≡ conclude t i came (sight_by t i f w) (does (error_effect code r))
+  error_enacted : (f : Option StateRow) (w : Question) (r : Rule) → doing i (error_effect code r) ≡ conclude t i came (sight_by t i f w) (does (error_effect code r))
   unfolding conclude enacted changed carried told in_order orders_in ups_in
   error_enacted f w r = refl
 
-  pub wrong : (r : Rule) (e : Effect) → e ≡ error_effect code r → doing i e ≡ comes state_rows t i came (sends code (Wrong r))
+  pub wrong : (r : Rule) (e : Effect) → e ≡ error_effect code r → doing i e ≡ comes state_rows t i came (sends code (Err r))
   unfolding comes decide_by effect_by
   wrong r e z = ap (doing i) z ∙ error_enacted (found state_rows (stream t i) code) nothing r
 
   -- a request, by the row that was found
-  module _ (q : Request) (s : Stream) (f : Found) (es : s ≡ stream t i) (ef : f ≡ found state_rows s (request_asks q).cause) where
-    by_found : (g : Found) → f ≡ g
-        → conclude t i came (sight_by t i g (request_asks q).question) (decide_by (sight_by t i g (request_asks q).question) (sends code (For q)) g) ≡ comes state_rows t i came (sends code (For q))
+  module _ (q : Request) (s : Stream) (f : Option StateRow) (es : s ≡ stream t i) (ef : f ≡ found state_rows s (request_asks q).cause) where
+    by_found : (g : Option StateRow) → f ≡ g
+        → conclude t i came (sight_by t i g (request_asks q).question) (decide_by (sight_by t i g (request_asks q).question) (sends code (Ok q)) g) ≡ comes state_rows t i came (sends code (Ok q))
     unfolding comes
     by_found g h =
-        ap (λ (g : Found). conclude t i came (sight_by t i g (request_asks q).question) (decide_by (sight_by t i g (request_asks q).question) (sends code (For q)) g))
+        ap (λ (g : Option StateRow). conclude t i came (sight_by t i g (request_asks q).question) (decide_by (sight_by t i g (request_asks q).question) (sends code (Ok q)) g))
         (sym h ∙ ef ∙ ap (λ (s : Stream). found state_rows s (request_asks q).cause) es)
 
-    pub no_row : (e : Effect) → f ≡ Missing → e ≡ error_effect code (without_row q) → doing i e ≡ comes state_rows t i came (sends code (For q))
+    pub no_row : (e : Effect) → f ≡ None → e ≡ error_effect code (without_row q) → doing i e ≡ comes state_rows t i came (sends code (Ok q))
     unfolding decide_by effect_by
-    no_row e h z = ap (doing i) z ∙ error_enacted Missing (request_asks q).question (without_row q) ∙ by_found Missing h
+    no_row e h z = ap (doing i) z ∙ error_enacted None (request_asks q).question (without_row q) ∙ by_found None h
 
-    pub by_row : (x : StateRow) (r : Judgement) (e : Effect) → f ≡ At x → RightlyJudged t i q r → e ≡ effect_by (At x) (record { 0 = i + 1 }) code s r.verdict
-        → doing r.carrier e ≡ comes state_rows t i came (sends code (For q))
+    pub by_row : (x : StateRow) (r : Judgement) (e : Effect) → f ≡ Some x → RightlyJudged t i q r → e ≡ effect_by (Some x) (record { 0 = i + 1 }) code s r.verdict
+        → doing r.carrier e ≡ comes state_rows t i came (sends code (Ok q))
     unfolding conclude decide_by
-    by_row x r e h j z = rw (z, (j x).verdict, (j x).carrier, es, add-one) (by_found (At x) h)
+    by_row x r e h j z = rw (z, (j x).verdict, (j x).carrier, es, add-one) (by_found (Some x) h)
 
 -- ---- no message takes an open indication, and what it writes fits the room
 
@@ -85,32 +80,32 @@ placed e w h z k f = record {
 unchanged-takes : (x : StateRow) (s : Stream) → takes (unchanged x s) ≡ false
 unchanged-takes x s = picked (λ (c : Change). takes c ≡ false) (eqb x.to x.from) Stays (onward x s) (λ e. refl) (λ e. refl)
 
-message-takes : (x : StateRow) (k : Token) (code : ℕ) (s : Stream) (v : Verdict) → takes (effect_by (At x) k code s v).change ≡ false
+message-takes : (x : StateRow) (k : Token) (code : ℕ) (s : Stream) (v : Result Service Rule) → takes (effect_by (Some x) k code s v).change ≡ false
 unfolding effect_by effect_of
-message-takes x k code s (Fails r) = refl
-message-takes x k code s (Serves service.Inform) = unchanged-takes x s
-message-takes x k code s (Serves service.TellToken) = unchanged-takes x s
-message-takes x k code s (Serves (service.Attach p)) = refl
-message-takes x k code s (Serves service.Detach) = refl
-message-takes x k code s (Serves (service.Bind mode sap granted)) = refl
-message-takes x k code s (Serves service.Unbind) = refl
-message-takes x k code s (Serves (service.Connect at)) = refl
-message-takes x k code s (Serves (service.Accept n)) = refl
-message-takes x k code s (Serves (service.Deny n reason)) = refl
-message-takes x k code s (Serves (service.Disconnect reason)) = refl
-message-takes x k code s (Serves service.Reset) = refl
-message-takes x k code s (Serves service.ResetRes) = refl
-message-takes x k code s (Serves (service.Unitdata at form)) = unchanged-takes x s
+message-takes x k code s (Err r) = refl
+message-takes x k code s (Ok service.Inform) = unchanged-takes x s
+message-takes x k code s (Ok service.TellToken) = unchanged-takes x s
+message-takes x k code s (Ok (service.Attach p)) = refl
+message-takes x k code s (Ok service.Detach) = refl
+message-takes x k code s (Ok (service.Bind mode sap granted)) = refl
+message-takes x k code s (Ok service.Unbind) = refl
+message-takes x k code s (Ok (service.Connect at)) = refl
+message-takes x k code s (Ok (service.Accept n)) = refl
+message-takes x k code s (Ok (service.Deny n reason)) = refl
+message-takes x k code s (Ok (service.Disconnect reason)) = refl
+message-takes x k code s (Ok service.Reset) = refl
+message-takes x k code s (Ok service.ResetRes) = refl
+message-takes x k code s (Ok (service.Unitdata at form)) = unchanged-takes x s
 
-message-fits : (x : StateRow) (k : Token) (code : ℕ) (s : Stream) (v : Verdict) → Fits (effect_by (At x) k code s v)
+message-fits : (x : StateRow) (k : Token) (code : ℕ) (s : Stream) (v : Result Service Rule) → Fits (effect_by (Some x) k code s v)
 unfolding effect_by
-message-fits x k code s (Fails r) = error_fits code r
-message-fits x k code s (Serves v) = service_fits x k s v
+message-fits x k code s (Err r) = error_fits code r
+message-fits x k code s (Ok v) = service_fits x k s v
 
 module _ {t : Table} {i : ℕ} (e : Effect) (h : i < stream_total) where
   -- an error is a message up and nothing else, whatever the message
-  pub error_placed : (p : Reply) → e ≡ acting Stays Untold false (Says p) → Placed t i e
-  error_placed p z = placed e (acting Stays Untold false (Says p)) h z refl (omega arith)
+  pub error_placed : (p : Reply) → e ≡ acting Stays None false (Some p) → Placed t i e
+  error_placed p z = placed e (acting Stays None false (Some p)) h z refl (omega arith)
 
-  pub message-placed : (x : StateRow) (k : Token) (code : ℕ) (s : Stream) (v : Verdict) → e ≡ effect_by (At x) k code s v → Placed t i e
-  message-placed x k code s v z = placed e (effect_by (At x) k code s v) h z (message-takes x k code s v) (message-fits x k code s v)
+  pub message-placed : (x : StateRow) (k : Token) (code : ℕ) (s : Stream) (v : Result Service Rule) → e ≡ effect_by (Some x) k code s v → Placed t i e
+  message-placed x k code s v z = placed e (effect_by (Some x) k code s v) h z (message-takes x k code s v) (message-fits x k code s v)

@@ -1,17 +1,16 @@
 -- What a request with a state row sees, what it comes to by that, and what is lent with a message.
-use Rattle.std.specs.Prelude.{ℕ, ◌≡◌, List}
+use Rattle.std.specs.Prelude.{ℕ, ◌≡◌, List, Some}
 use Rattle.paper.specs.Base.{Table}
 use Rattle.paper.specs.Sight.{request_asks, Sight, sight_by, carrier_at}
 use Rattle.paper.specs.ErrorOrder.{judge_request}
 use Rattle.paper.specs.declared.Request.{Request}
 use Rattle.paper.specs.declared.StateRow.{StateRow}
-use Rattle.paper.specs.declared.Found.TheVariants.{At}
 use Rattle.call_answering.specs.declared.Judgement.{Judgement}
 use Rattle.table_image.specs.Lent.{LentAt}
 use Rattle.wire_messages.specs.Whole.{Whole}
 
 abbrev pub seen : Table → ℕ → StateRow → Request → Sight
-seen t i x q = sight_by t i (At x) (request_asks q).question
+seen t i x q = sight_by t i (Some x) (request_asks q).question
 
 pub record Judged (t : Table) (i : ℕ) (q : Request) (x : StateRow) (r : Judgement) : Type 0 where
   pub verdict : r.verdict ≡ judge_request (seen t i x q) q

@@ -1,12 +1,11 @@
 // A message: its state row, what the order of errors reads of the table, and what that comes to.
 #![tactic(auto)]
 
-ghost use Rattle.std.specs.Prelude.{◌≡◌, List, ℕ};
+ghost use Rattle.std.specs.Prelude.{◌≡◌, List, ℕ, Ok};
 ghost use Rattle.paper.specs.Messages.{code_in, asked_by};
 ghost use Rattle.paper.specs.StateRows.{state_rows};
 ghost use Rattle.paper.specs.Sight.{sends, carrier_at};
 ghost use Rattle.paper.specs.Step.{comes};
-ghost use Rattle.paper.specs.declared.Asked.TheVariants as asked;
 ghost use Rattle.paper.specs.declared.Request.TheVariants as request;
 ghost use Rattle.table_image.specs.Layout.{table_of};
 ghost use Rattle.call_outcomes.specs.Deciding.{Rightly};
@@ -14,22 +13,19 @@ ghost use Rattle.call_answering.specs.Judging.{RightlyJudged, Sent};
 ghost use Rattle.table_image.specs.Lent.{LentAt, Loaded};
 
 use call_outcomes::Decided;
-use paper::{
-    Asked, Carrier, ConnectResponse, DisconnectRequest, Found, Request, Service, Stream, Token,
-    Verdict,
-};
+use paper::{Carrier, ConnectResponse, DisconnectRequest, Request, Rule, Service, StateRow, Stream, Token};
 
 // ---- steps 3 to 7 of the order of errors, of stream i, which stands as s
 
 // What a request comes to, and the stream that would carry its call.
 #[derive(Clone, Copy)]
 struct Judgement {
-    verdict: Verdict,
+    verdict: Result<Service, Rule>,
     carrier: u8,
 }
 
 // A request that names no token: the stream itself would carry.
-fn alone(i: u8, verdict: Verdict) -> Judgement
+fn alone(i: u8, verdict: Result<Service, Rule>) -> Judgement
     ensures { result ≡ record { verdict = verdict; carrier = i } }
 {
     Judgement {
@@ -84,10 +80,10 @@ fn judged_request(img: &[u8], i: u8, s: Stream, q: Request) -> Judgement
     ensures { RightlyJudged (table_of img.now) i q result }
 {
     match q {
-        Request::Info => alone(i, Verdict::Serves(Service::Inform)),
-        Request::Token => alone(i, Verdict::Serves(Service::TellToken)),
+        Request::Info => alone(i, Ok(Service::Inform)),
+        Request::Token => alone(i, Ok(Service::TellToken)),
         Request::Attach(p) => alone(i, paper_rules::judge_attach(p, table_lookup::knows(img, p))),
-        Request::Detach => alone(i, Verdict::Serves(Service::Detach)),
+        Request::Detach => alone(i, Ok(Service::Detach)),
         Request::Bind(b) => {
             let p = s.ppa;
             let sap = b.sap;
@@ -96,12 +92,12 @@ fn judged_request(img: &[u8], i: u8, s: Stream, q: Request) -> Judgement
                 paper_rules::judge_bind(b, table_lookup::is_listened_for(img, p, sap)),
             )
         }
-        Request::Unbind => alone(i, Verdict::Serves(Service::Unbind)),
+        Request::Unbind => alone(i, Ok(Service::Unbind)),
         Request::Connect(c) => alone(i, paper_rules::judge_connect(c)),
         Request::ConnectRes(a) => judged_accept(img, i, s, a),
         Request::Disconnect(d) => judged_disconnect(img, i, s, d),
-        Request::Reset => alone(i, Verdict::Serves(Service::Reset)),
-        Request::ResetRes => alone(i, Verdict::Serves(Service::ResetRes)),
+        Request::Reset => alone(i, Ok(Service::Reset)),
+        Request::ResetRes => alone(i, Ok(Service::ResetRes)),
         Request::Unitdata(u) => alone(i, paper_rules::judge_datagram(s, u)),
     }
 }
@@ -112,16 +108,16 @@ fn judged_request(img: &[u8], i: u8, s: Stream, q: Request) -> Judgement
 // came with is not asked.)
 fn answer_request(img: &[u8], i: u8, code: u32, q: Request) -> Decided
     requires { LentAt i img.now }
-    ensures { (r : List ℕ) → Rightly (table_of img.now) r result (comes state_rows (table_of img.now) i r (sends code (asked.For q))) }
+    ensures { (r : List ℕ) → Rightly (table_of img.now) r result (comes state_rows (table_of img.now) i r (sends code (Ok q))) }
 {
     let s = table_image::load_stream(img, i as usize);
     let found = paper_rows::request_row(s, q);
     match found {
-        Found::Missing => {
+        None => {
             let no_row = paper_rules::without_row(q);
             Decided::Does(i, i, paper_effects::error_effect(code, no_row))
         }
-        Found::At(x) => {
+        Some(x) => {
             let judged = judged_request(img, i, s, q);
             let verdict = judged.verdict;
             let carrier = judged.carrier;
@@ -140,7 +136,7 @@ pub fn answer_message(img: &[u8], i: u8, m: &[u8]) -> Decided
     let code = wire_messages::code_in(m);
     let asked = wire_messages::asked_by(m);
     match asked {
-        Asked::Wrong(rule) => Decided::Does(i, i, paper_effects::error_effect(code, rule)),
-        Asked::For(q) => answer_request(img, i, code, q),
+        Err(rule) => Decided::Does(i, i, paper_effects::error_effect(code, rule)),
+        Ok(q) => answer_request(img, i, code, q),
     }
 }

@@ -1,4 +1,5 @@
 -- What stands behind the fields of an order and of a message up: it comes from the message, the stream or the event.
+use Rattle.std.proofs.Common.{Some}
 use Prim.Native.Nat.{ℕ}
 use mathlib.Core.Path.{◌≡◌, refl}
 use mathlib.Core.List.{List, [], ◌∷◌}
@@ -10,7 +11,6 @@ use Rattle.paper.specs.Room.{most_of_order}
 use Rattle.paper.specs.declared.Stream.{Stream}
 use Rattle.paper.specs.declared.Form.{Form}
 use Rattle.paper.specs.declared.Correlation.{Correlation}
-use Rattle.paper.specs.declared.Telling.TheVariants.{Tells}
 use Rattle.paper.specs.declared.LineOrder.{LineOrder}
 use Rattle.paper.specs.declared.LineOrder.TheVariants as line_order
 use Rattle.paper.specs.declared.Reply.{Reply}
@@ -30,7 +30,7 @@ bare_most (line_order.Unitdata at form) n1 n2 = absurd (n2 at form refl)
 -- nor has data behind it
 pub bare_orders_lem : (i c : ℕ) (own : Slot) (r : List ℕ) (o : LineOrder) → ((at : ℕ) → o ≡ line_order.Connect at → ⊥)
     → ((at : ℕ) (form : Form) → o ≡ line_order.Unitdata at form → ⊥)
-    → all_bytes (order (named_by i c o) o [] ∷ []) ≡ all_bytes (orders_in i c own r (Tells o))
+    → all_bytes (order (named_by i c o) o [] ∷ []) ≡ all_bytes (orders_in i c own r (Some o))
 unfolding orders_in
 bare_orders_lem i c own r (line_order.Connect at) n1 n2 = absurd (n1 at refl)
 bare_orders_lem i c own r (line_order.Accept n) n1 n2 = refl

@@ -1,7 +1,7 @@
 // What was decided, concluded: an effect's records are written to the lent room, then the lent table is changed.
 #![tactic(auto)]
 
-ghost use Rattle.std.specs.Prelude.{◌≡◌, ◌+◌, ◌≤◌, length};
+ghost use Rattle.std.specs.Prelude.{◌≡◌, ◌+◌, ◌≤◌, length, Some};
 ghost use Rattle.paper.specs.Base.{slot, mac_at};
 ghost use Rattle.paper.specs.RecordsOut.{up, bytes_of, unitdata_size, all_bytes};
 ghost use Rattle.paper.specs.Effects.{named_by, orders_in, behind_reply, ups_in, told};
@@ -12,7 +12,6 @@ ghost use Rattle.call_outcomes.specs.Deciding.{outcome_of};
 ghost use Rattle.call_outcomes.specs.declared.Decided.TheVariants as decided;
 ghost use Rattle.call_enacting.specs.Behind.{own_behind, behind_by};
 ghost use Rattle.paper.specs.RecordsIn.{message_size, data_size, block_in};
-ghost use Rattle.paper.specs.declared.Telling.TheVariants as telling;
 ghost use Rattle.paper.specs.Room.{room_size, most_of_order, most_told, most_said};
 ghost use Rattle.octets.specs.Writing.{WroteMost};
 ghost use Rattle.paper.specs.Replies.{most_tail};
@@ -21,10 +20,7 @@ ghost use Rattle.call_enacting.specs.Concluding.{Concludes, Writes, WroteBeside,
 
 use call_outcomes::Decided;
 use octets::BLOCK_SIZE;
-use paper::{
-    ADDRESS_SIZE, BODY_SIZE, Effect, Form, HEAD_SIZE, LineOrder, MAC_SIZE, MESSAGE_SIZE, MOST_TAIL,
-    Reply, START_SIZE, Saying, Telling,
-};
+use paper::{ADDRESS_SIZE, BODY_SIZE, Effect, Form, HEAD_SIZE, LineOrder, MAC_SIZE, MESSAGE_SIZE, MOST_TAIL, Reply, START_SIZE};
 
 // Where the M of a pair has its length and data.
 const DATA_PLACE: usize = MESSAGE_SIZE + START_SIZE;
@@ -66,7 +62,7 @@ fn put_datagram(room: &mut [u8], s: u8, at: u8, form: Form, r: &[u8]) -> usize
 // own slot.)
 fn put_named_order(room: &mut [u8], i: u8, c: u8, r: &[u8], o: LineOrder) -> usize
     requires { most_of_order o ≤ length room.old }
-    ensures { WroteBeside (most_of_order o) (λ own. all_bytes (orders_in i c own r.now (telling.Tells o))) result room.old room.new }
+    ensures { WroteBeside (most_of_order o) (λ own. all_bytes (orders_in i c own r.now (Some o))) result room.old room.new }
 {
     let s = named_by(i, c, o);
     match o {
@@ -82,13 +78,13 @@ fn put_named_order(room: &mut [u8], i: u8, c: u8, r: &[u8], o: LineOrder) -> usi
 }
 
 // What the line is told.
-fn put_orders(room: &mut [u8], i: u8, c: u8, r: &[u8], telling: Telling) -> usize
+fn put_orders(room: &mut [u8], i: u8, c: u8, r: &[u8], telling: Option<LineOrder>) -> usize
     requires { most_told telling ≤ length room.old }
     ensures { WroteBeside (most_told telling) (λ own. all_bytes (orders_in i c own r.now telling)) result room.old room.new }
 {
     match telling {
-        Telling::Untold => 0,
-        Telling::Tells(o) => put_named_order(room, i, c, r, o),
+        None => 0,
+        Some(o) => put_named_order(room, i, c, r, o),
     }
 }
 
@@ -143,13 +139,13 @@ fn put_reply(img: &[u8], room: &mut [u8], i: u8, r: &[u8], reply: Reply) -> usiz
 }
 
 // What the stream's user is told.
-fn put_replies(img: &[u8], room: &mut [u8], i: u8, r: &[u8], saying: Saying) -> usize
+fn put_replies(img: &[u8], room: &mut [u8], i: u8, r: &[u8], saying: Option<Reply>) -> usize
     requires { LentRoom (most_said saying) i img.now room.old }
     ensures { WroteMost (most_said saying) (all_bytes (ups_in i (mac_at (table_of img.now) i) r.now saying)) 0 result room.old room.new }
 {
     match saying {
-        Saying::Unsaid => 0,
-        Saying::Says(reply) => put_reply(img, room, i, r, reply),
+        None => 0,
+        Some(reply) => put_reply(img, room, i, r, reply),
     }
 }
 

@@ -1,4 +1,5 @@
 -- What the line brings is decided by the row by which it may come: by none it is refused, else it does what that row says.
+use Rattle.std.proofs.Common.{None, Option, Some}
 use Prim.Native.Nat.{ℕ, ◌<◌, ◌≤◌}
 use native.Mathlib.Omega.{arith}
 use mathlib.Core.Path.{◌≡◌, refl, sym, ap, ◌∙◌}
@@ -20,8 +21,6 @@ use Rattle.paper.specs.declared.Input.{Input}
 use Rattle.paper.specs.declared.Input.TheVariants as input
 use Rattle.paper.specs.declared.Stream.{Stream}
 use Rattle.paper.specs.declared.StateRow.{StateRow}
-use Rattle.paper.specs.declared.Found.{Found}
-use Rattle.paper.specs.declared.Found.TheVariants.{At, Missing}
 use Rattle.paper.specs.declared.Event.{Event}
 use Rattle.paper.specs.declared.Event.TheVariants as event
 use Rattle.paper.specs.declared.Effect.{Effect}
@@ -37,36 +36,36 @@ module _ (t : Table) (i : ℕ) (r : List ℕ) (refusal : ℕ) (e : Event) where
   abbrev doing : Effect → Outcome
   doing w = outcome_of t r (Does i i w)
 
-  abbrev by : Found → Outcome
-  by Missing = refused t refusal
-  by (At x) = doing (event_effect x (stream t i) e)
+  abbrev by : Option StateRow → Outcome
+  by None = refused t refusal
+  by (Some x) = doing (event_effect x (stream t i) e)
 
   by_due-row : by (due_row t i e) ≡ comes state_rows t i r (brings refusal e)
   unfolding comes conclude decide_by answer_to ◌⇒◌∣◌
   by_due-row = go (is_due (slot t i) e) refl (found state_rows (stream t i) (letter_of e))
     where
-      go : (b : Bool) → is_due (slot t i) e ≡ b → (f : Found)
-          → by (b ⇒ f ∣ Missing) ≡ conclude t i r (sight_by t i f nothing) (decide_by (sight_by t i f nothing) (brings refusal e) f)
-      go true p Missing = refl
-      go false p Missing = refl
-      go true p (At x) = rw p
-      go false p (At x) = rw p
+      go : (b : Bool) → is_due (slot t i) e ≡ b → (f : Option StateRow)
+          → by (b ⇒ f ∣ None) ≡ conclude t i r (sight_by t i f nothing) (decide_by (sight_by t i f nothing) (brings refusal e) f)
+      go true p None = refl
+      go false p None = refl
+      go true p (Some x) = rw p
+      go false p (Some x) = rw p
 
-  module _ (f : Found) (d : f ≡ due_row t i e) where
-    pub no_row : f ≡ Missing → refused t refusal ≡ comes state_rows t i r (brings refusal e)
+  module _ (f : Option StateRow) (d : f ≡ due_row t i e) where
+    pub no_row : f ≡ None → refused t refusal ≡ comes state_rows t i r (brings refusal e)
     no_row h = ap by (sym h ∙ d) ∙ by_due-row
 
-    pub by_row : (x : StateRow) (s : Stream) (w : Effect) → f ≡ At x → s ≡ stream t i → w ≡ event_effect x s e
+    pub by_row : (x : StateRow) (s : Stream) (w : Effect) → f ≡ Some x → s ≡ stream t i → w ≡ event_effect x s e
         → doing w ≡ comes state_rows t i r (brings refusal e)
     by_row x s w h es z = ap doing (z ∙ ap (λ (s : Stream). event_effect x s e) es) ∙ ap by (sym h ∙ d) ∙ by_due-row
 
 -- ---- an indication that is due finds a place; no other event takes one
 
-due : (t : Table) (i : ℕ) (e : Event) (x : StateRow) → due_row t i e ≡ At x → is_due (slot t i) e ≡ true
+due : (t : Table) (i : ℕ) (e : Event) (x : StateRow) → due_row t i e ≡ Some x → is_due (slot t i) e ≡ true
 unfolding ◌⇒◌∣◌
 due t i e x h = go (is_due (slot t i) e) h
   where
-    go : (b : Bool) → (b ⇒ found state_rows (stream t i) (letter_of e) ∣ Missing) ≡ At x → b ≡ true
+    go : (b : Bool) → (b ⇒ found state_rows (stream t i) (letter_of e) ∣ None) ≡ Some x → b ≡ true
     go true h = refl
     go false h = absurd (false≢true (ap is_found h))
 
@@ -80,7 +79,7 @@ has-place t i x s (event.Withdrawn n reason) d g h = absurd (false≢true h)
 has-place t i x s (event.Resets reason) d g h = absurd (false≢true h)
 has-place t i x s event.Confirmed d g h = absurd (false≢true h)
 
-pub place : (t : Table) (i : ℕ) (e : Event) (f : Found) (x : StateRow) (s : Stream) (w : Effect) → f ≡ due_row t i e → f ≡ At x → w ≡ event_effect x s e
+pub place : (t : Table) (i : ℕ) (e : Event) (f : Option StateRow) (x : StateRow) (s : Stream) (w : Effect) → f ≡ due_row t i e → f ≡ Some x → w ≡ event_effect x s e
     → (stream t i).granted ≤ most_open → takes w.change ≡ true → length (waiting t i) < most_open
 place t i e f x s w d h z g k = has-place t i x s e (due t i e x (sym d ∙ h)) g (ap (λ (w : Effect). takes w.change) (sym z) ∙ k)
 

@@ -17,7 +17,7 @@ ghost use Rattle.call_events.specs.DueRow.{due_row};
 ghost use Rattle.call_events.specs.Bringing.{RightlyBrought, Comes, OfLine, Occurs};
 
 use call_outcomes::{BUSY, Decided, NOBODY_THERE, NOT_A_RECORD, NOT_OPEN, UNEXPECTED};
-use paper::{Correlation, Event, Found, Input, MAC_SIZE, PpaNumber, STREAM_TOTAL, Stream};
+use paper::{Correlation, Event, Input, MAC_SIZE, PpaNumber, STREAM_TOTAL, StateRow, Stream};
 
 // ---- the row by which an event may come
 
@@ -40,12 +40,12 @@ fn is_due(img: &[u8], i: u8, s: Stream, event: Event) -> bool
 }
 
 // The stream's row for an event; none where it is not due. Stream i stands as s.
-fn row_of(img: &[u8], i: u8, s: Stream, event: Event) -> Found
+fn row_of(img: &[u8], i: u8, s: Stream, event: Event) -> Option<StateRow>
     requires { Loaded s i img.now }
     ensures { result ≡ due_row (table_of img.now) i event }
 {
     if !is_due(img, i, s, event) {
-        return Found::Missing;
+        return None;
     }
     paper_rows::event_row(s, event)
 }
@@ -58,8 +58,8 @@ fn come(img: &[u8], i: u8, refusal: u8, event: Event) -> Decided
     let s = table_image::load_stream(img, i as usize);
     let found = row_of(img, i, s, event);
     match found {
-        Found::Missing => Decided::Refuses(refusal),
-        Found::At(x) => Decided::Does(i, i, paper_effects::event_effect(x, s, event)),
+        None => Decided::Refuses(refusal),
+        Some(x) => Decided::Does(i, i, paper_effects::event_effect(x, s, event)),
     }
 }
 

@@ -1,5 +1,6 @@
 -- Each effect on one stream keeps a sound table sound and tells what it changes of the open numbers and the grant, since its row
 -- passes the test of what came and the order of errors has shown the rest.
+use Rattle.std.proofs.Common.{Option}
 use Prim.Native.Nat.{ℕ}
 use native.Mathlib.Omega.{arith}
 use mathlib.Core.Path.{◌≡◌, refl, sym, ap, subst, ◌∙◌}
@@ -26,8 +27,6 @@ use Rattle.paper.specs.declared.BindRequest.{BindRequest}
 use Rattle.paper.specs.declared.StateRow.{StateRow}
 use Rattle.paper.specs.declared.Change.{Change}
 use Rattle.paper.specs.declared.Change.TheVariants.{Stays, Becomes}
-use Rattle.paper.specs.declared.Telling.{Telling}
-use Rattle.paper.specs.declared.Saying.{Saying}
 use Rattle.paper.specs.declared.Effect.{Effect}
 use Rattle.paper.specs.declared.Input.{Input}
 use Rattle.paper.proofs.Fair.{MayBind, bind_allowed}
@@ -40,6 +39,8 @@ use Rattle.keeping.proofs.Traces.{Shows, SameGrant, shows_still, shows_stream, s
 use Rattle.keeping.proofs.Lines.{order_lines, up_lines, effect_lines, told-lines, quiet_told}
 use Rattle.keeping.proofs.Rows.{Moves, leads_moves}
 use Rattle.keeping.proofs.Binds.{bound_by, bind_alone}
+use Rattle.paper.specs.declared.LineOrder.{LineOrder}
+use Rattle.paper.specs.declared.Reply.{Reply}
 
 -- ---- what is shown of an outcome: its table is sound, and shows what its lines say
 pub record Good (t : Table) (q : Input) (o : Outcome) : Type 0 where
@@ -68,7 +69,7 @@ module _ (t : Table) (i : ℕ) (q : Input) (c : ℕ) (r : List ℕ) where
   quietly : (e : Effect) → Quiet e → ShowsBy e t
   quietly e z = shows_still t _ (quiet_told q i c (slot t i) (mac_at t i) r e z)
 
-  module _ (k : Sound t) (u : (slot t i).is_open ≡ true) (x : StateRow) (o : Telling) (f : Bool) (a : Saying) where
+  module _ (k : Sound t) (u : (slot t i).is_open ≡ true) (x : StateRow) (o : Option LineOrder) (f : Bool) (a : Option Reply) where
     abbrev makes : Change → Effect
     makes d = acting d o f a
 

@@ -1,4 +1,5 @@
 -- Every call keeps a sound table sound, and its lines say what the table shows, since each way that a call can go does.
+use Rattle.std.proofs.Common.{Some}
 use Prim.Native.Nat.{ℕ, zero, suc, ◌+◌, ◌<◌, ◌%◌, ◌^◌}
 use native.Mathlib.Omega.{arith}
 use mathlib.Core.Path.{◌≡◌, refl, ap}
@@ -32,7 +33,6 @@ use Rattle.paper.specs.declared.Request.{Request}
 use Rattle.paper.specs.declared.Service.{Service}
 use Rattle.paper.specs.declared.StateRow.{StateRow}
 use Rattle.paper.specs.declared.Event.{Event}
-use Rattle.paper.specs.declared.Found.TheVariants.{At}
 use Rattle.paper.proofs.RowFound.{row_from}
 use Rattle.paper.proofs.Fair.{Fair, informs, tells_token, attaches, detaches, binds, unbinds, connects, accepts_here, accepts_on, denies, disconnects, resets, answers_reset, sends_data}
 use Rattle.paper.proofs.Walk.{done, failing, serving, Brings, arriving, accepted, gone, withdrawn, reset, confirmed, Way, refusing, adding, opening, closing, answering, bringing, showing, step_walk}
@@ -66,16 +66,16 @@ free_empty t k h =
 
 module _ (rows : List StateRow) (f : RowsFit rows) (t : Table) (k : Sound t) where
   -- a test that the rows pass, of a stream's row
-  passing : (i : ℕ) {cause : ℕ} {x : StateRow} → found rows (stream t i) cause ≡ At x → (p : StateRow → Bool) → all_of p rows ≡ true → p (row_of (stream t i) cause x) ≡ true
+  passing : (i : ℕ) {cause : ℕ} {x : StateRow} → found rows (stream t i) cause ≡ Some x → (p : StateRow → Bool) → all_of p rows ≡ true → p (row_of (stream t i) cause x) ≡ true
   passing i {cause} h = passes rows (stream t i) cause h
 
   -- where an open number goes, its row is from 9
-  loses-row : (i cause n : ℕ) {x : StateRow} → found rows (stream t i) cause ≡ At x → has cause enders ≡ true → has n (waiting t i) ≡ true
+  loses-row : (i cause n : ℕ) {x : StateRow} → found rows (stream t i) cause ≡ Some x → has cause enders ≡ true → has n (waiting t i) ≡ true
       → may_lose (to_state x) (last_state x) ≡ true
   loses-row i cause n h c w = of-asks _ _ (passes rows (stream t i) cause h fits_losing f.losing) (to_both _ _ c (in_nine (ppa_numbers t) (slot t i) n (k.each i) w))
 
   -- ---- what a row serves
-  served_good : (i : ℕ) (x : StateRow) (r : List ℕ) {l n : ℕ} {m : List ℕ} {q : Request} {c : ℕ} {v : Service} → (slot t i).is_open ≡ true → found rows (stream t i) (request_asks q).cause ≡ At x
+  served_good : (i : ℕ) (x : StateRow) (r : List ℕ) {l n : ℕ} {m : List ℕ} {q : Request} {c : ℕ} {v : Service} → (slot t i).is_open ≡ true → found rows (stream t i) (request_asks q).cause ≡ Some x
       → Fair t i m q c v → Good t (input.Message i l n) (done t i c r (effect_of x (token_of i) (stream t i) v))
   unfolding effect_of
   served_good i x r u h informs = unchanged_good t i _ i _ k u x _ _ _ (passing i h fits_staying f.staying) (row_from rows (stream t i) _ h) refl
@@ -94,7 +94,7 @@ module _ (rows : List StateRow) (f : RowsFit rows) (t : Table) (k : Sound t) whe
   served_good i x r u h (sends_data y) = unchanged_good t i _ i _ k u x _ _ _ (passing i h fits_staying f.staying) (row_from rows (stream t i) _ h) refl
 
   -- ---- what the line brings
-  brought_good : (i : ℕ) (x : StateRow) (r : List ℕ) {q : Input} {e : Event} → Brings t q i e → found rows (stream t i) (letter_of e) ≡ At x → is_due (slot t i) e ≡ true
+  brought_good : (i : ℕ) (x : StateRow) (r : List ℕ) {q : Input} {e : Event} → Brings t q i e → found rows (stream t i) (letter_of e) ≡ Some x → is_due (slot t i) e ≡ true
       → Good t q (done t i i r (event_effect x (stream t i) e))
   unfolding event_effect next_number
   brought_good i x r {q} (arriving y b) h d =

@@ -1,5 +1,6 @@
 -- What a call says of connection indications is its order's line and its message's, whatever its effect: an effect has one of each at
 -- most, and a flush, the data of a datagram and the indications of a frame say nothing.
+use Rattle.std.proofs.Common.{None, Option, Some}
 use Prim.Native.Nat.{ℕ}
 use mathlib.Core.Path.{◌≡◌, refl, ap, ◌∙◌}
 use mathlib.Core.Bool.{Bool, true, false}
@@ -19,11 +20,8 @@ use Rattle.paper.specs.declared.Frame.{Frame}
 use Rattle.paper.specs.declared.Input.{Input}
 use Rattle.paper.specs.declared.LineOrder.{LineOrder}
 use Rattle.paper.specs.declared.LineOrder.TheVariants as line_order
-use Rattle.paper.specs.declared.Telling.{Telling}
-use Rattle.paper.specs.declared.Telling.TheVariants.{Untold, Tells}
-use Rattle.paper.specs.declared.Saying.{Saying}
-use Rattle.paper.specs.declared.Saying.TheVariants.{Unsaid, Says}
 use Rattle.paper.specs.declared.Effect.{Effect}
+use Rattle.paper.specs.declared.Reply.{Reply}
 
 -- the lines of an order of stream i, where stream c carries, and of the M of a datagram; of a flush; of a message up
 abbrev data_lines : LineOrder → List Line
@@ -34,17 +32,17 @@ data_lines line_order.Reset = []
 data_lines line_order.ResetAnswer = []
 data_lines (line_order.Unitdata at form) = Nothing ∷ []
 
-abbrev pub order_lines : Input → ℕ → ℕ → Telling → List Line
-order_lines q i c Untold = []
-order_lines q i c (Tells o) = order_line q (named_by i c o) o ∷ data_lines o
+abbrev pub order_lines : Input → ℕ → ℕ → Option LineOrder → List Line
+order_lines q i c None = []
+order_lines q i c (Some o) = order_line q (named_by i c o) o ∷ data_lines o
 
 abbrev flush_lines : Bool → List Line
 flush_lines true = Nothing ∷ []
 flush_lines false = []
 
-abbrev pub up_lines : ℕ → Saying → List Line
-up_lines i Unsaid = []
-up_lines i (Says r) = reply_line i r ∷ []
+abbrev pub up_lines : ℕ → Option Reply → List Line
+up_lines i None = []
+up_lines i (Some r) = reply_line i r ∷ []
 
 abbrev pub effect_lines : Input → ℕ → ℕ → Effect → List Line
 effect_lines q i c e = order_lines q i c e.order ++ flush_lines e.flush ++ up_lines i e.up
@@ -53,13 +51,13 @@ pub told-lines : (q : Input) (i c : ℕ) (own : Slot) (mac r : List ℕ) (e : Ef
 unfolding told in_order orders_in ups_in
 told-lines q i c own mac r e = go e.order e.flush e.up
   where
-    last : (b : Bool) (u : Saying) → map (line_of q) (flush_if b i ++ ups_in i mac r u) ≡ flush_lines b ++ up_lines i u
-    last true Unsaid = refl
-    last true (Says a) = refl
-    last false Unsaid = refl
-    last false (Says a) = refl
+    last : (b : Bool) (u : Option Reply) → map (line_of q) (flush_if b i ++ ups_in i mac r u) ≡ flush_lines b ++ up_lines i u
+    last true None = refl
+    last true (Some a) = refl
+    last false None = refl
+    last false (Some a) = refl
 
-    behind : (o : LineOrder) (b : Bool) (u : Saying) → map (line_of q) (data_behind i r o ++ flush_if b i ++ ups_in i mac r u) ≡ data_lines o ++ flush_lines b ++ up_lines i u
+    behind : (o : LineOrder) (b : Bool) (u : Option Reply) → map (line_of q) (data_behind i r o ++ flush_if b i ++ ups_in i mac r u) ≡ data_lines o ++ flush_lines b ++ up_lines i u
     behind (line_order.Connect at) b u = last b u
     behind (line_order.Accept n) b u = last b u
     behind (line_order.Disconnect n reason) b u = last b u
@@ -67,9 +65,9 @@ told-lines q i c own mac r e = go e.order e.flush e.up
     behind line_order.ResetAnswer b u = last b u
     behind (line_order.Unitdata at form) b u = ap (λ (l : List Line). Nothing ∷ l) (last b u)
 
-    go : (o : Telling) (b : Bool) (u : Saying) → map (line_of q) (orders_in i c own r o ++ flush_if b i ++ ups_in i mac r u) ≡ order_lines q i c o ++ flush_lines b ++ up_lines i u
-    go Untold b u = last b u
-    go (Tells o) b u = ap (λ (l : List Line). order_line q (named_by i c o) o ∷ l) (behind o b u)
+    go : (o : Option LineOrder) (b : Bool) (u : Option Reply) → map (line_of q) (orders_in i c own r o ++ flush_if b i ++ ups_in i mac r u) ≡ order_lines q i c o ++ flush_lines b ++ up_lines i u
+    go None b u = last b u
+    go (Some o) b u = ap (λ (l : List Line). order_line q (named_by i c o) o ∷ l) (behind o b u)
 
 -- An effect that says nothing of indications: its order and its message do not.
 pub quiet_told : (q : Input) (i c : ℕ) (own : Slot) (mac r : List ℕ) (e : Effect) → both (silent (order_lines q i c e.order)) (silent (up_lines i e.up)) ≡ true

@@ -1,5 +1,6 @@
 -- A listener that takes or loses an open indication is in 9 while one is open, bound in mode 1: so it may go to whatever state its row
 -- leads to, and a stream that carries the call may go to 11.
+use Rattle.std.proofs.Common.{Option}
 use Prim.Native.Nat.{ℕ, suc, ◌≤◌, ◌<◌, ◌^◌}
 use native.Mathlib.Omega.{arith}
 use mathlib.Core.Path.{◌≡◌, refl, sym, ap, ◌∙◌}
@@ -25,8 +26,6 @@ use Rattle.paper.specs.declared.State.TheVariants.{DataXfer}
 use Rattle.paper.specs.declared.Stream.{Stream}
 use Rattle.paper.specs.declared.Correlation.{Correlation}
 use Rattle.paper.specs.declared.StateRow.{StateRow}
-use Rattle.paper.specs.declared.Telling.{Telling}
-use Rattle.paper.specs.declared.Saying.{Saying}
 use Rattle.paper.specs.declared.Input.{Input}
 use Rattle.paper.proofs.Fair.{MayCarry}
 use Rattle.paper.proofs.Walk.{done}
@@ -39,10 +38,12 @@ use Rattle.keeping.proofs.Leaves.{standing-sound, settle_sound, more-sound}
 use Rattle.keeping.proofs.Traces.{Shows, shows_stream, shows_less, shows_more}
 use Rattle.keeping.proofs.Lines.{effect_lines}
 use Rattle.keeping.proofs.Effects.{Good, same_grant, shows_lines}
+use Rattle.paper.specs.declared.LineOrder.{LineOrder}
+use Rattle.paper.specs.declared.Reply.{Reply}
 
 module _ (t : Table) (k : Sound t) (i : ℕ) (u : (slot t i).is_open ≡ true) (x : StateRow) (n : Correlation) where
   -- I: one more number, that is free
-  pub takes_good : (q : Input) (c : ℕ) (r : List ℕ) (o : Telling) (f : Bool) (a : Saying) → may_take (number (stream t i)) (to_state x) ≡ true
+  pub takes_good : (q : Input) (c : ℕ) (r : List ℕ) (o : Option LineOrder) (f : Bool) (a : Option Reply) → may_take (number (stream t i)) (to_state x) ≡ true
       → ltb (length (waiting t i)) (stream t i).granted ≡ true → free (occurrences t) n.0 ≡ true → n.0 < 2 ^ 32
       → effect_lines q i c (acting (more x (stream t i) n) o f a) ≡ Came i n.0 ∷ [] → Good t q (done t i c r (acting (more x (stream t i) n) o f a))
   unfolding enacted carried changed
@@ -106,7 +107,7 @@ module _ (t : Table) (k : Sound t) (i : ℕ) (u : (slot t i).is_open ≡ true) (
 
     module _ (q : Input) (c : ℕ) (r : List ℕ) where
       -- a denial, W
-      pub less_good : (o : Telling) (f : Bool) (a : Saying) (d : End) (zs : List Line) → effect_lines q i c (acting (less x (stream t i) n) o f a) ≡ Went i n.0 d ∷ zs → silent zs ≡ true
+      pub less_good : (o : Option LineOrder) (f : Bool) (a : Option Reply) (d : End) (zs : List Line) → effect_lines q i c (acting (less x (stream t i) n) o f a) ≡ Went i n.0 d ∷ zs → silent zs ≡ true
           → Good t q (done t i c r (acting (less x (stream t i) n) o f a))
       unfolding enacted carried
       less_good o f a d zs y z = record { kept = less-sound; seen = shows_lines t i q c r (acting (less x (stream t i) n) o f a) _ _ y (less_shows d zs z) }

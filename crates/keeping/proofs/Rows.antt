@@ -1,5 +1,6 @@
 -- The row that a stream has for what comes passes each test that the list passes, and is one for that stream: so a test of it is a
 -- test of the stream, and of where the row leads.
+use Rattle.std.proofs.Common.{Some}
 use Prim.Native.Nat.{ℕ}
 use mathlib.Core.Path.{◌≡◌, refl, ap}
 use mathlib.Core.Bool.{Bool, true, false, not}
@@ -16,7 +17,6 @@ use Rattle.paper.proofs.RowFound.{row-cause, row_from, row-mode, has_all}
 use Rattle.paper.specs.declared.State.{State}
 use Rattle.paper.specs.declared.Stream.{Stream}
 use Rattle.paper.specs.declared.StateRow.{StateRow}
-use Rattle.paper.specs.declared.Found.TheVariants.{At}
 use Rattle.keeping.specs.RowsFit.{holds_for, may_lead, RowsFit}
 use Rattle.keeping.proofs.Changes.{Fits}
 
@@ -29,7 +29,7 @@ state_rows_fit = record { staying = refl; moving = refl; disconnecting = refl; a
 abbrev pub row_of : Stream → ℕ → StateRow → StateRow
 row_of s c x = record { from = number s; mode = s.mode; cause = c; to = x.to; last = x.last }
 
-pub passes : (rows : List StateRow) (s : Stream) (c : ℕ) {x : StateRow} → found rows s c ≡ At x → (p : StateRow → Bool) → all_of p rows ≡ true → p (row_of s c x) ≡ true
+pub passes : (rows : List StateRow) (s : Stream) (c : ℕ) {x : StateRow} → found rows s c ≡ Some x → (p : StateRow → Bool) → all_of p rows ≡ true → p (row_of s c x) ≡ true
 passes rows s c {x} h p a = at c (number s) s.mode (row-cause rows s c h) (row_from rows s c h) (row-mode rows s c h) (has_all rows s c h p a)
   where
     at : (c n m : ℕ) → x.cause ≡ c → x.from ≡ n → x.mode ≡ m → p x ≡ true → p (record { from = n; mode = m; cause = c; to = x.to; last = x.last }) ≡ true

@@ -3,7 +3,7 @@ ghost use Rattle.std.specs.Prelude.{◌≡◌};
 ghost use Rattle.paper.specs.Replies.{sap_length};
 ghost use Rattle.paper.specs.Exclusions.{ground_number, place_number, telling_of, sap_telling};
 
-use paper::{Excluded, Ground, Place};
+use paper::{Exclusion, Ground, Place};
 
 fn ground_number(ground: Ground) -> u8
     ensures { result ≡ ground_number ground }
@@ -35,16 +35,16 @@ fn sap_length(n: u32) -> u32
     2
 }
 
-fn telling_of(n: u32, by: Excluded) -> u32
+fn telling_of(n: u32, by: Option<Exclusion>) -> u32
     ensures { result ≡ telling_of n by }
 {
     match by {
-        Excluded::By(x) => {
+        Some(x) => {
             let ground = x.grounds;
             let place = x.place;
             ground_number(ground) as u32 * 256 + place_number(place) as u32 * 65536
         }
-        Excluded::Not => sap_length(n),
+        None => sap_length(n),
     }
 }
 

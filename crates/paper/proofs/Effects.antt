@@ -1,5 +1,6 @@
 -- What the records of an effect tell and how many bytes they take, whatever the effect: an order, then F, then a message up, so
 -- each is said of the three, once.
+use Rattle.std.proofs.Common.{None, Option, Some}
 use Prim.Native.Nat.{ℕ, ◌+◌, ◌*◌, ◌≤◌}
 use native.Mathlib.Omega.{arith}
 use mathlib.Core.Path.{◌≡◌, refl, ◌∙◌, ap}
@@ -24,14 +25,10 @@ use Rattle.paper.specs.declared.LineOrder.TheVariants as line_order
 use Rattle.paper.specs.declared.Reply.{Reply}
 use Rattle.paper.specs.declared.Reply.TheVariants as reply
 use Rattle.paper.specs.declared.Rule.{Rule}
-use Rattle.paper.specs.declared.Saying.{Saying}
-use Rattle.paper.specs.declared.Saying.TheVariants.{Unsaid, Says}
 use Rattle.paper.specs.declared.Service.{Service}
 use Rattle.paper.specs.declared.Service.TheVariants as service
 use Rattle.paper.specs.declared.StateRow.{StateRow}
 use Rattle.paper.specs.declared.Stream.{Stream}
-use Rattle.paper.specs.declared.Telling.{Telling}
-use Rattle.paper.specs.declared.Telling.TheVariants.{Untold, Tells}
 use Rattle.paper.specs.declared.Token.{Token}
 use Rattle.paper.proofs.Tails.{tail_most, address_field}
 use Rattle.paper.proofs.Sizes.{fields_few, up-size}
@@ -60,9 +57,9 @@ errors_in (up i r tail ∷ rs) = error_in r ++ errors_in rs
 errors_in (unitdata i form addresses ∷ rs) = errors_in rs
 errors_in (datum i body ∷ rs) = errors_in rs
 
-abbrev pub errors_of : Saying → List ℕ
-errors_of Unsaid = []
-errors_of (Says r) = error_in r
+abbrev pub errors_of : Option Reply → List ℕ
+errors_of None = []
+errors_of (Some r) = error_in r
 
 -- what serves a request tells none, and so does an event
 pub service_silent : (x : StateRow) (k : Token) (s : Stream) (v : Service) → errors_of (effect_of x k s v).up ≡ []
@@ -136,15 +133,15 @@ module _ (i c : ℕ) (own : Slot) (mac m : List ℕ) where
   unfolding told in_order orders_in ups_in
   told_errors e = first e.order
     where
-      ups : (u : Saying) → errors_in (ups_in i mac m u) ≡ errors_of u
-      ups Unsaid = refl
-      ups (Says r) = append-nil (error_in r)
+      ups : (u : Option Reply) → errors_in (ups_in i mac m u) ≡ errors_of u
+      ups None = refl
+      ups (Some r) = append-nil (error_in r)
 
       then : (b : Bool) → errors_in (flush_if b i ++ ups_in i mac m e.up) ≡ errors_of e.up
       then true = ups e.up
       then false = ups e.up
 
-      told_by : (o : LineOrder) → errors_in (orders_in i c own m (Tells o) ++ flush_if e.flush i ++ ups_in i mac m e.up) ≡ errors_of e.up
+      told_by : (o : LineOrder) → errors_in (orders_in i c own m (Some o) ++ flush_if e.flush i ++ ups_in i mac m e.up) ≡ errors_of e.up
       told_by (line_order.Connect at) = then e.flush
       told_by (line_order.Accept n) = then e.flush
       told_by (line_order.Disconnect n reason) = then e.flush
@@ -152,9 +149,9 @@ module _ (i c : ℕ) (own : Slot) (mac m : List ℕ) where
       told_by line_order.ResetAnswer = then e.flush
       told_by (line_order.Unitdata at form) = then e.flush
 
-      first : (o : Telling) → errors_in (orders_in i c own m o ++ flush_if e.flush i ++ ups_in i mac m e.up) ≡ errors_of e.up
-      first Untold = then e.flush
-      first (Tells o) = told_by o
+      first : (o : Option LineOrder) → errors_in (orders_in i c own m o ++ flush_if e.flush i ++ ups_in i mac m e.up) ≡ errors_of e.up
+      first None = then e.flush
+      first (Some o) = told_by o
 
   -- ---- the PPA's MAC has its size
   module _ (six : length mac ≡ mac_size) where
@@ -162,12 +159,12 @@ module _ (i c : ℕ) (own : Slot) (mac m : List ℕ) where
     pub fits_block : (r : Reply) → length (fields_of r) * 4 + length (behind_reply mac m r) ≤ block_size
     fits_block r = omega (arith, fields_few r, tail_most mac six m r)
 
-    size_ups : (u : Saying) → size (ups_in i mac m u) ≤ most_said u
+    size_ups : (u : Option Reply) → size (ups_in i mac m u) ≤ most_said u
     unfolding ups_in
-    size_ups Unsaid = omega arith
-    size_ups (Says r) = omega (arith, length-append (bytes_of (up i r (behind_reply mac m r))) [], up-size i r (behind_reply mac m r) (fits_block r))
+    size_ups None = omega arith
+    size_ups (Some r) = omega (arith, length-append (bytes_of (up i r (behind_reply mac m r))) [], up-size i r (behind_reply mac m r) (fits_block r))
 
-    size-order : (o : LineOrder) → size (orders_in i c own m (Tells o)) ≤ most_of_order o
+    size-order : (o : LineOrder) → size (orders_in i c own m (Some o)) ≤ most_of_order o
     unfolding orders_in
     size-order (line_order.Connect at) = omega (arith, length-append (part (block_in m) at address_size) [], part-most (block_in m) at address_size)
     size-order (line_order.Accept n) = omega arith
@@ -178,10 +175,10 @@ module _ (i c : ℕ) (own : Slot) (mac m : List ℕ) where
         let address : List ℕ = pad_to most_address (part (block_in m) at (length_of form)) in
         omega (arith, length-append address (bytes_of (datum i (data_in m)) ++ []), length-append (data_in m) [], part-most m (message_size + 2) (1 + most_data), address_field (block_in m) at form)
 
-    size_orders : (o : Telling) → size (orders_in i c own m o) ≤ most_told o
+    size_orders : (o : Option LineOrder) → size (orders_in i c own m o) ≤ most_told o
     unfolding orders_in
-    size_orders Untold = omega arith
-    size_orders (Tells o) = size-order o
+    size_orders None = omega arith
+    size_orders (Some o) = size-order o
 
     size-flush : (b : Bool) → size (flush_if b i) ≤ start_size
     size-flush true = omega arith

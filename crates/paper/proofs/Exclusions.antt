@@ -1,5 +1,6 @@
 -- Under 256 the four tests of the table come to: odd, the reserved one, no, no; from 256 on to: no, no, under the types, over them.
 -- The tests of document 01 are the same two in each part. The search names what it finds.
+use Rattle.std.proofs.Common.{None, Option, Some}
 use Prim.Native.Nat.{ℕ, zero, suc, ◌%◌, ◌<◌, ◌≤◌}
 use mathlib.Core.Path.{◌≡◌, refl, ap, sym, subst, ◌∙◌}
 use mathlib.Core.Bool.{Bool, true, false, not, false≢true}
@@ -14,8 +15,6 @@ use Rattle.ledger.proofs.Tallies.{both_true, either-false, not-not, past_all, on
 use Rattle.paper.specs.Saps.{is_sap, is_type}
 use Rattle.paper.specs.Exclusions.{most_number, exclusions, excludes, excluded_in, excluded_by, is_none}
 use Rattle.paper.specs.declared.Exclusion.{Exclusion}
-use Rattle.paper.specs.declared.Excluded.{Excluded}
-use Rattle.paper.specs.declared.Excluded.TheVariants.{By, Not}
 
 -- which of some exclusions hold of a number
 abbrev held : List Exclusion → ℕ → List Bool
@@ -35,19 +34,19 @@ pub record Tied (n : ℕ) : Type 0 where
   pub saps : is_sap n ≡ both (ltb n 256) (is_none (excluded_by n))
   pub types : is_type n ≡ both (leb 256 n) (is_none (excluded_by n))
   pub binds : either (is_sap n) (is_type n) ≡ is_none (excluded_by n)
-  pub named : (x : Exclusion) → excluded_by n ≡ By x → HoldsIn exclusions n x
+  pub named : (x : Exclusion) → excluded_by n ≡ Some x → HoldsIn exclusions n x
   pub once : sum_of one_if (held exclusions n) ≤ 1
 
-abbrev named_by : Exclusion → Excluded → Exclusion
-named_by d (By x) = x
-named_by d Not = d
+abbrev named_by : Exclusion → Option Exclusion → Exclusion
+named_by d (Some x) = x
+named_by d None = d
 
-named_holds : (l : List Exclusion) (n : ℕ) (x : Exclusion) → excluded_in l n ≡ By x → HoldsIn l n x
+named_holds : (l : List Exclusion) (n : ℕ) (x : Exclusion) → excluded_in l n ≡ Some x → HoldsIn l n x
 unfolding ◌⇒◌∣◌
 named_holds [] n x e = absurd (false≢true (sym (ap is_none e)))
 named_holds (y ∷ l) n x e = go (excludes y n) refl (named_holds l n x) e
   where
-    go : (b : Bool) → excludes y n ≡ b → (excluded_in l n ≡ By x → HoldsIn l n x) → (b ⇒ By y ∣ excluded_in l n) ≡ By x → HoldsIn (y ∷ l) n x
+    go : (b : Bool) → excludes y n ≡ b → (excluded_in l n ≡ Some x → HoldsIn l n x) → (b ⇒ Some y ∣ excluded_in l n) ≡ Some x → HoldsIn (y ∷ l) n x
     go true b rest e =
         let same : y ≡ x = ap (named_by y) e in
         record { place = 0; inside = omega arith; there = same; holds = subst (λ (z : Exclusion). excludes z n ≡ true) same b }
@@ -60,7 +59,7 @@ unfolding ◌⇒◌∣◌
 none_held [] n = refl
 none_held (x ∷ l) n = go (excludes x n) (none_held l n)
   where
-    go : (b : Bool) → is_none (excluded_in l n) ≡ all_of not (held l n) → is_none (b ⇒ By x ∣ excluded_in l n) ≡ both (not b) (all_of not (held l n))
+    go : (b : Bool) → is_none (excluded_in l n) ≡ all_of not (held l n) → is_none (b ⇒ Some x ∣ excluded_in l n) ≡ both (not b) (all_of not (held l n))
     go true h = refl
     go false h = h
 
@@ -125,7 +124,7 @@ tied n h = go (ltb n 256) refl
 
 -- the search for the first that holds, place by place
 pub excluded_from : (d : Exclusion) (l : List Exclusion) (k n : ℕ) → k < length l
-    → excluded_in (drop k l) n ≡ (excludes (get_or l k d) n ⇒ By (get_or l k d) ∣ excluded_in (drop (suc k) l) n)
+    → excluded_in (drop k l) n ≡ (excludes (get_or l k d) n ⇒ Some (get_or l k d) ∣ excluded_in (drop (suc k) l) n)
 excluded_from d [] k n h = absurd (omega arith)
 excluded_from d (x ∷ l) zero n h = refl
 excluded_from d (x ∷ l) (suc k) n h = excluded_from d l k n (omega arith)

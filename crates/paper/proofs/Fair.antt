@@ -1,5 +1,6 @@
 -- What the order of errors has shown of a request: of one that it serves, the opposite of each rule; of one that a rule fails, that this
 -- rule applies. One walk of the order, for whoever needs it.
+use Rattle.std.proofs.Common.{Err, Ok, Result, Some}
 use Prim.Native.Nat.{ℕ, suc, ◌+◌, ◌-◌, ◌%◌, ◌≤◌, ◌<◌, min}
 use native.Mathlib.Omega.{arith}
 use mathlib.Core.Path.{◌≡◌, refl, sym}
@@ -34,15 +35,10 @@ use Rattle.paper.specs.declared.Request.TheVariants as request
 use Rattle.paper.specs.declared.Rule.{Rule}
 use Rattle.paper.specs.declared.Rule.TheVariants as rule
 use Rattle.paper.specs.declared.Carrier.{Carrier}
-use Rattle.paper.specs.declared.Carrier.TheVariants.{Itself, Other, None}
+use Rattle.paper.specs.declared.Carrier.TheVariants as carrier
 use Rattle.paper.specs.declared.Service.{Service}
 use Rattle.paper.specs.declared.Service.TheVariants as service
 use Rattle.paper.specs.declared.StateRow.{StateRow}
-use Rattle.paper.specs.declared.Found.TheVariants.{At}
-use Rattle.paper.specs.declared.Asked.{Asked}
-use Rattle.paper.specs.declared.Asked.TheVariants.{For, Wrong}
-use Rattle.paper.specs.declared.Verdict.{Verdict}
-use Rattle.paper.specs.declared.Verdict.TheVariants.{Serves, Fails}
 
 -- ---- what a served request has shown
 
@@ -97,9 +93,9 @@ pub data Fair (t : Table) (i : ℕ) (m : List ℕ) : Request → ℕ → Service
   unbinds : Fair t i m request.Unbind i service.Unbind
   connects : {a : ConnectRequest} → MayConnect m a → Fair t i m (request.Connect a) i (service.Connect a.offset)
   -- the only one open, where this stream is to carry the call; or another stream may
-  accepts_here : {a : ConnectResponse} → Offers t i a Itself → length (waiting t i) ≤ 1
+  accepts_here : {a : ConnectResponse} → Offers t i a carrier.Itself → length (waiting t i) ≤ 1
       → Fair t i m (request.ConnectRes a) i (service.Accept a.correlation)
-  accepts_on : {a : ConnectResponse} {c : ℕ} → Offers t i a (Other c (stream t c)) → MayCarry t i c
+  accepts_on : {a : ConnectResponse} {c : ℕ} → Offers t i a (carrier.Other c (stream t c)) → MayCarry t i c
       → Fair t i m (request.ConnectRes a) c (service.Accept a.correlation)
   denies : {d : DisconnectRequest} → is_in 9 (stream t i) ≡ true → has d.correlation.0 (waiting t i) ≡ true
       → Fair t i m (request.Disconnect d) i (service.Deny d.correlation d.reason)
@@ -132,12 +128,12 @@ pub data Faulty (t : Table) (i : ℕ) : Request → Rule → Type 0 where
   -- 6. CONNECT_RES
   not_open : {a : ConnectResponse} → has a.correlation.0 (waiting t i) ≡ false → Faulty t i (request.ConnectRes a) rule.AcceptNotOpen
   accept_qos : {a : ConnectResponse} → has a.correlation.0 (waiting t i) ≡ true → eqb a.qos 0 ≡ false → Faulty t i (request.ConnectRes a) rule.AcceptQos
-  others_open : {a : ConnectResponse} → Offers t i a Itself → 1 < length (waiting t i) → Faulty t i (request.ConnectRes a) rule.OthersOpen
-  of_none : {a : ConnectResponse} → Offers t i a None → Faulty t i (request.ConnectRes a) rule.TokenOfNone
-  not_idle : {a : ConnectResponse} {c : ℕ} → Offers t i a (Other c (stream t c)) → is_in 6 (stream t c) ≡ false → Faulty t i (request.ConnectRes a) rule.CarrierNotIdle
-  other_ppa : {a : ConnectResponse} {c : ℕ} → Offers t i a (Other c (stream t c)) → is_in 6 (stream t c) ≡ true
+  others_open : {a : ConnectResponse} → Offers t i a carrier.Itself → 1 < length (waiting t i) → Faulty t i (request.ConnectRes a) rule.OthersOpen
+  of_none : {a : ConnectResponse} → Offers t i a carrier.None → Faulty t i (request.ConnectRes a) rule.TokenOfNone
+  not_idle : {a : ConnectResponse} {c : ℕ} → Offers t i a (carrier.Other c (stream t c)) → is_in 6 (stream t c) ≡ false → Faulty t i (request.ConnectRes a) rule.CarrierNotIdle
+  other_ppa : {a : ConnectResponse} {c : ℕ} → Offers t i a (carrier.Other c (stream t c)) → is_in 6 (stream t c) ≡ true
       → eqb (stream t c).ppa.0 (stream t i).ppa.0 ≡ false → Faulty t i (request.ConnectRes a) rule.CarrierOfOtherPpa
-  connectionless : {a : ConnectResponse} {c : ℕ} → Offers t i a (Other c (stream t c)) → is_in 6 (stream t c) ≡ true
+  connectionless : {a : ConnectResponse} {c : ℕ} → Offers t i a (carrier.Other c (stream t c)) → is_in 6 (stream t c) ≡ true
       → eqb (stream t c).mode 2 ≡ true → Faulty t i (request.ConnectRes a) rule.CarrierConnectionless
   -- 7. DISCONNECT_REQ
   denial_not_open : {d : DisconnectRequest} → is_in 9 (stream t i) ≡ true → has d.correlation.0 (waiting t i) ≡ false
@@ -199,9 +195,9 @@ pub record Asks (m : List ℕ) (q : Request) : Type 0 where
   pub coded : code_in m ≡ (request_asks q).cause
   pub measured : size_read (length m) q ≡ length m
 
-data ReadAs (m : List ℕ) : Asked → Type 0 where
-  wrong : {w : Rule} → ReadAs m (Wrong w)
-  right : {q : Request} → Asks m q → ReadAs m (For q)
+data ReadAs (m : List ℕ) : Result Request Rule → Type 0 where
+  wrong : {w : Rule} → ReadAs m (Err w)
+  right : {q : Request} → Asks m q → ReadAs m (Ok q)
 
 -- the code of a primitive that is served
 abbrev Coded : ℕ → Primitive → Type 0
@@ -253,33 +249,33 @@ module _ (m : List ℕ) where
   reads primitive.NotSupported c = wrong
   reads primitive.NotServed c = wrong
 
-  pub asks : {q : Request} → asked_by m ≡ For q → Asks m q
+  pub asks : {q : Request} → asked_by m ≡ Ok q → Asks m q
   unfolding asked_by
   asks {q} e = of_right (read_as (primitive_of (code_in m)) m) (reads (primitive_of (code_in m)) (coded (code_in m))) e
     where
-      of_right : (a : Asked) → ReadAs m a → a ≡ For q → Asks m q
-      of_right (Wrong w) h e = absurd (let z : ◌≡◌ {A = ℕ} 0 1 = cc in omega arith)
-      of_right (For p) (right h) e = let z : p ≡ q = cc in rw z at h
+      of_right : (a : Result Request Rule) → ReadAs m a → a ≡ Ok q → Asks m q
+      of_right (Err w) h e = absurd (let z : ◌≡◌ {A = ℕ} 0 1 = cc in omega arith)
+      of_right (Ok p) (right h) e = let z : p ≡ q = cc in rw z at h
 
 -- ---- the walk
 
 -- a verdict on request q: a rule that fails it, or a fair service
-pub data Judged (t : Table) (i : ℕ) (m : List ℕ) (q : Request) (c : ℕ) : Verdict → Type 0 where
-  fails : {w : Rule} → Faulty t i q w → Judged t i m q c (Fails w)
-  serves : {v : Service} → Fair t i m q c v → Judged t i m q c (Serves v)
+pub data Judged (t : Table) (i : ℕ) (m : List ℕ) (q : Request) (c : ℕ) : Result Service Rule → Type 0 where
+  fails : {w : Rule} → Faulty t i q w → Judged t i m q c (Err w)
+  serves : {v : Service} → Fair t i m q c v → Judged t i m q c (Ok v)
 
 -- an order of tests, of which each verdict is such: a test has shown itself, or its opposite
 infixr 5 ◌⟹◌∣◌
-◌⟹◌∣◌ : {t : Table} {i : ℕ} {m : List ℕ} {q : Request} {c : ℕ} (b : Bool) {w : Rule} {v : Verdict} → (b ≡ true → Faulty t i q w)
-    → (b ≡ false → Judged t i m q c v) → Judged t i m q c (b ⇒ Fails w ∣ v)
+◌⟹◌∣◌ : {t : Table} {i : ℕ} {m : List ℕ} {q : Request} {c : ℕ} (b : Bool) {w : Rule} {v : Result Service Rule} → (b ≡ true → Faulty t i q w)
+    → (b ≡ false → Judged t i m q c v) → Judged t i m q c (b ⇒ Err w ∣ v)
 ◌⟹◌∣◌ {t} {i} {m} {q} {c} b h g = chosen (Judged t i m q c) b _ _ (λ e. fails (h e)) g
 
 module _ (t : Table) (i : ℕ) (m : List ℕ) where
   -- what the token of an accept names: this stream, or another that is open
   data Named : Carrier → Type 0 where
-    itself : Named Itself
-    nobody : Named None
-    another : (c : ℕ) → (slot t c).is_open ≡ true → (c ≡ i → ⊥) → Named (Other c (stream t c))
+    itself : Named carrier.Itself
+    nobody : Named carrier.None
+    another : (c : ℕ) → (slot t c).is_open ≡ true → (c ≡ i → ⊥) → Named (carrier.Other c (stream t c))
 
   named : (k : Token) → Named (carrier_of t i k)
   unfolding carrier_of
@@ -291,15 +287,15 @@ module _ (t : Table) (i : ℕ) (m : List ℕ) where
   fair_carrier : (a : ConnectResponse) (c : Carrier) → Named c → Offers t i a c
       → Judged t i m (request.ConnectRes a) (carrier_at i c) (judge_carrier (stream t i) a.correlation (length (waiting t i)) c)
   unfolding judge_carrier judge_itself judge_other
-  fair_carrier a Itself itself f = _ ⟹ (λ y. others_open f (ltb-true _ _ y)) ∣ (λ n. serves (accepts_here f (ltb-false _ _ n)))
-  fair_carrier a None nobody f = fails (of_none f)
-  fair_carrier a (Other _ _) (another c o d) f =
+  fair_carrier a carrier.Itself itself f = _ ⟹ (λ y. others_open f (ltb-true _ _ y)) ∣ (λ n. serves (accepts_here f (ltb-false _ _ n)))
+  fair_carrier a carrier.None nobody f = fails (of_none f)
+  fair_carrier a (carrier.Other _ _) (another c o d) f =
       _ ⟹ (λ y. not_idle f (not-true _ y)) ∣ (λ n. _ ⟹ (λ y. other_ppa f (not-false _ n) (not-true _ y)) ∣ (λ p. _ ⟹ connectionless f (not-false _ n) ∣ (λ e.
       serves (accepts_on f (record { is_open = o; other = d; idle = not-false _ n; same_ppa = eqb-true _ _ (not-false _ p); not_connectionless = e })))))
 
   -- every verdict on a request that message m asks for, by any row
   pub judged_fairly : (x : StateRow) (q : Request) → Asks m q
-      → Judged t i m q (carrier_at i (answer_to t i (At x) (request_asks q).question).carrier) (judge_request (sight_by t i (At x) (request_asks q).question) q)
+      → Judged t i m q (carrier_at i (answer_to t i (Some x) (request_asks q).question).carrier) (judge_request (sight_by t i (Some x) (request_asks q).question) q)
   unfolding answer_to judge_request judge_attach judge_bind judge_listening judge_connect judge_accept judge_disconnect judge_denial judge_datagram
   judged_fairly x request.Info s = serves informs
   judged_fairly x request.Token s = serves tells_token

@@ -1,4 +1,5 @@
 -- A message of code 0x07 was read with its M: without one it would have been malformed. Its fields are those of the record.
+use Rattle.std.proofs.Common.{Ok, Result}
 use Prim.Native.Nat.{ℕ, ◌+◌, ◌≤◌, ◌<◌}
 use native.Mathlib.Omega.{arith}
 use mathlib.Core.Path.{◌≡◌, refl, sym, ap, ◌∙◌}
@@ -17,8 +18,6 @@ use Rattle.octets.proofs.Runs.{part-most, part_byte}
 use Rattle.paper.specs.RecordsIn.{kind_of, head_size, message_size, data_size, pair_size, stream_in, size_in, wants_data, has_data, message_in, data_in, pair_as, message_as, frame_as, input_as, input_of}
 use Rattle.paper.specs.StateRows.{unitdata_req}
 use Rattle.paper.specs.Messages.{code_in, primitive_of, sized, read_as, asked_by}
-use Rattle.paper.specs.declared.Asked.{Asked}
-use Rattle.paper.specs.declared.Asked.TheVariants.{For}
 use Rattle.paper.specs.declared.Kind.{Kind}
 use Rattle.paper.specs.declared.Kind.TheVariants as kind
 use Rattle.paper.specs.declared.Input.{Input}
@@ -27,6 +26,8 @@ use Rattle.paper.specs.declared.Primitive.{Primitive}
 use Rattle.paper.specs.declared.Primitive.TheVariants as primitive
 use Rattle.paper.specs.declared.Request.TheVariants as request
 use Rattle.paper.specs.declared.UnitdataRequest.{UnitdataRequest}
+use Rattle.paper.specs.declared.Request.{Request}
+use Rattle.paper.specs.declared.Rule.{Rule}
 
 -- a field of the message is that of the record, so its code is
 field_in : (r : List ℕ) (l at : ℕ) → at + 4 ≤ l → be32_at (message_in r l) at ≡ be32_at r (head_size + at)
@@ -102,13 +103,13 @@ data_lent r h =
     ∙ rw (eqb-true (get_or r message_size 0) 77 b.0, eqb-true (get_or r (message_size + 1) 0) (stream_in r) b.1)
 
 -- A datagram of full size was read with the offset that stands in the record.
-offset_read : (r : List ℕ) (l : ℕ) (u : UnitdataRequest) → read_as primitive.Unitdata (message_in r l) ≡ For (request.Unitdata u) → be32_at r (head_size + 8) ≡ u.offset
+offset_read : (r : List ℕ) (l : ℕ) (u : UnitdataRequest) → read_as primitive.Unitdata (message_in r l) ≡ Ok (request.Unitdata u) → be32_at r (head_size + 8) ≡ u.offset
 unfolding sized
-offset_read r l u = chosen (λ (a : Asked). a ≡ For (request.Unitdata u) → be32_at r (head_size + 8) ≡ u.offset) _ _ _
+offset_read r l u = chosen (λ (a : Result Request Rule). a ≡ Ok (request.Unitdata u) → be32_at r (head_size + 8) ≡ u.offset) _ _ _
     (λ _ h. absurd (let z : ◌≡◌ {A = ℕ} 0 1 = cc in omega arith))
     (λ b h. let z : be32_at (message_in r l) 8 ≡ u.offset = cc in sym (field_in r l 8 (omega (arith, ltb-false (length (message_in r l)) 20 b, part-most r head_size l))) ∙ z)
 
-pub datagram_offset : (r : List ℕ) (l : ℕ) {u : UnitdataRequest} → code_in (message_in r l) ≡ unitdata_req → asked_by (message_in r l) ≡ For (request.Unitdata u)
+pub datagram_offset : (r : List ℕ) (l : ℕ) {u : UnitdataRequest} → code_in (message_in r l) ≡ unitdata_req → asked_by (message_in r l) ≡ Ok (request.Unitdata u)
     → be32_at r (head_size + 8) ≡ u.offset
 unfolding asked_by primitive_of ◌⇒◌∣◌
 datagram_offset r l {u} c e = offset_read r l u (sym (ap (λ (p : Primitive). read_as p (message_in r l)) (ap primitive_of c)) ∙ e)

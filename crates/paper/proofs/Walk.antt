@@ -1,5 +1,6 @@
 -- The ways that a call can go, and what the tests on each have shown: the one walk of the call, by any list of state rows. What holds on
 -- each way holds of every call.
+use Rattle.std.proofs.Common.{Err, None, Ok, Option, Result, Some}
 use Prim.Native.Nat.{ℕ, ◌≤◌, ◌<◌}
 use native.Mathlib.Omega.{arith}
 use mathlib.Core.Path.{◌≡◌, refl, sym, ap, subst, ◌∙◌}
@@ -36,12 +37,6 @@ use Rattle.paper.specs.declared.Request.{Request}
 use Rattle.paper.specs.declared.Rule.{Rule}
 use Rattle.paper.specs.declared.Service.{Service}
 use Rattle.paper.specs.declared.StateRow.{StateRow}
-use Rattle.paper.specs.declared.Found.{Found}
-use Rattle.paper.specs.declared.Found.TheVariants.{At, Missing}
-use Rattle.paper.specs.declared.Asked.{Asked}
-use Rattle.paper.specs.declared.Asked.TheVariants.{For, Wrong}
-use Rattle.paper.specs.declared.Verdict.{Verdict}
-use Rattle.paper.specs.declared.Verdict.TheVariants.{Serves, Fails}
 use Rattle.paper.specs.declared.Event.{Event}
 use Rattle.paper.specs.declared.Event.TheVariants as event
 use Rattle.paper.specs.declared.Frame.{Frame}
@@ -60,11 +55,11 @@ abbrev pub erring : Table → ℕ → ℕ → Rule → Outcome
 erring t i code w = served t (up i (reply_by code (complaint_of w)) [] ∷ [])
 
 -- Message m of record r, which asks this, is answered with the error of the first rule that applies, or is served by its row.
-pub data Replied (rows : List StateRow) (t : Table) (i : ℕ) (m r : List ℕ) : Asked → Outcome → Type 0 where
-  failing : {a : Asked} {w : Rule} → verdict_on rows t i m a ≡ Fails w → Replied rows t i m r a (erring t i (code_in m) w)
-  serving : {q : Request} {x : StateRow} {c : ℕ} {v : Service} → verdict_on rows t i m (For q) ≡ Serves v
-      → found rows (stream t i) (request_asks q).cause ≡ At x → Fair t i m q c v
-      → Replied rows t i m r (For q) (done t i c r (effect_of x (token_of i) (stream t i) v))
+pub data Replied (rows : List StateRow) (t : Table) (i : ℕ) (m r : List ℕ) : Result Request Rule → Outcome → Type 0 where
+  failing : {a : Result Request Rule} {w : Rule} → verdict_on rows t i m a ≡ Err w → Replied rows t i m r a (erring t i (code_in m) w)
+  serving : {q : Request} {x : StateRow} {c : ℕ} {v : Service} → verdict_on rows t i m (Ok q) ≡ Ok v
+      → found rows (stream t i) (request_asks q).cause ≡ Some x → Fair t i m q c v
+      → Replied rows t i m r (Ok q) (done t i c r (effect_of x (token_of i) (stream t i) v))
 
 -- That record in brings that event to stream i, past the tests that stand before the event.
 pub data Brings (t : Table) : Input → ℕ → Event → Type 0 where
@@ -99,9 +94,9 @@ pub data Way (rows : List StateRow) (t : Table) (r : List ℕ) : Input → Outco
   adding : {p : PpaNumber} → MayAdd t p → Way rows t r (input.AddPpa p) (served (with_ppa t (record { number = p; mac = mac_in r })) [])
   opening : lowest_free t < stream_total → Way rows t r input.Open (served_opening (with_slot (remembering t) (lowest_free t) just_opened) (lowest_free t))
   closing : {i : ℕ} → (slot t i).is_open ≡ true → Way rows t r (input.Close i) (served (with_slot t i closed) (goodbyes i (slot t i)))
-  answering : {i l n : ℕ} {a : Asked} {o : Outcome} → Sent t i l n → asked_by (message_in r l) ≡ a → Replied rows t i (message_in r l) r a o
+  answering : {i l n : ℕ} {a : Result Request Rule} {o : Outcome} → Sent t i l n → asked_by (message_in r l) ≡ a → Replied rows t i (message_in r l) r a o
       → Way rows t r (input.Message i l n) o
-  bringing : {q : Input} {i : ℕ} {e : Event} {x : StateRow} → Brings t q i e → found rows (stream t i) (letter_of e) ≡ At x
+  bringing : {q : Input} {i : ℕ} {e : Event} {x : StateRow} → Brings t q i e → found rows (stream t i) (letter_of e) ≡ Some x
       → is_due (slot t i) e ≡ true → Way rows t r q (done t i i r (event_effect x (stream t i) e))
   showing : {f : Frame} → f.bytes ≤ most_data → knows t f.ppa ≡ true → Way rows t r (input.Frame f) (served t (indications r f (shown_to rows t r f)))
 
@@ -118,31 +113,31 @@ erred t i c r code w = ap (λ (tail : List ℕ). served t (up i (reply_by code (
 
 module _ (rows : List StateRow) (t : Table) where
   module _ (i : ℕ) (m r : List ℕ) where
-    failed : {a : Asked} {w : Rule} (c : ℕ) → verdict_on rows t i m a ≡ Fails w → Replied rows t i m r a (done t i c r (error_effect (code_in m) w))
+    failed : {a : Result Request Rule} {w : Rule} (c : ℕ) → verdict_on rows t i m a ≡ Err w → Replied rows t i m r a (done t i c r (error_effect (code_in m) w))
     failed {a} {w} c e = subst (Replied rows t i m r a) (erred t i c r (code_in m) w) (failing e)
 
     -- a request with a row, by the verdict on it
-    answered_by_lem : (q : Request) (x : StateRow) (c : ℕ) (v : Verdict) → found rows (stream t i) (request_asks q).cause ≡ At x
-        → verdict_on rows t i m (For q) ≡ v → Judged t i m q c v
-        → Replied rows t i m r (For q) (done t i c r (effect_by (At x) (token_of i) (code_in m) (stream t i) v))
+    answered_by_lem : (q : Request) (x : StateRow) (c : ℕ) (v : Result Service Rule) → found rows (stream t i) (request_asks q).cause ≡ Some x
+        → verdict_on rows t i m (Ok q) ≡ v → Judged t i m q c v
+        → Replied rows t i m r (Ok q) (done t i c r (effect_by (Some x) (token_of i) (code_in m) (stream t i) v))
     unfolding effect_by
-    answered_by_lem q x c (Fails w) h e (fails f) = failed c e
-    answered_by_lem q x c (Serves v) h e (serves f) = serving e h f
+    answered_by_lem q x c (Err w) h e (fails f) = failed c e
+    answered_by_lem q x c (Ok v) h e (serves f) = serving e h f
 
     -- a request, by the row found
-    by_found : (q : Request) → Asks m q → (f : Found) → found rows (stream t i) (request_asks q).cause ≡ f
-        → verdict_by (sight_by t i f (request_asks q).question) (For q) f ≡ verdict_on rows t i m (For q)
-        → Replied rows t i m r (For q)
-        (conclude t i r (sight_by t i f (request_asks q).question) (decide_by (sight_by t i f (request_asks q).question) (sends (code_in m) (For q)) f))
+    by_found : (q : Request) → Asks m q → (f : Option StateRow) → found rows (stream t i) (request_asks q).cause ≡ f
+        → verdict_by (sight_by t i f (request_asks q).question) (Ok q) f ≡ verdict_on rows t i m (Ok q)
+        → Replied rows t i m r (Ok q)
+        (conclude t i r (sight_by t i f (request_asks q).question) (decide_by (sight_by t i f (request_asks q).question) (sends (code_in m) (Ok q)) f))
     unfolding conclude decide_by effect_by
-    by_found q s Missing h e = failed _ (sym e)
-    by_found q s (At x) h e = answered_by_lem q x _ _ h (sym e) (judged_fairly t i m x q s)
+    by_found q s None h e = failed _ (sym e)
+    by_found q s (Some x) h e = answered_by_lem q x _ _ h (sym e) (judged_fairly t i m x q s)
 
     -- what message m asks, decided and enacted
-    pub answered : (a : Asked) → asked_by m ≡ a → Replied rows t i m r a (comes rows t i r (sends (code_in m) a))
+    pub answered : (a : Result Request Rule) → asked_by m ≡ a → Replied rows t i m r a (comes rows t i r (sends (code_in m) a))
     unfolding comes conclude decide_by effect_by
-    answered (Wrong w) e = failed _ refl
-    answered (For q) e = by_found q (asks m e) _ refl refl
+    answered (Err w) e = failed _ refl
+    answered (Ok q) e = by_found q (asks m e) _ refl refl
 
   -- a refusal other than 16
   no : {r : List ℕ} {q : Input} (n : ℕ) → both (ltb 0 n) (ltb n 16) ≡ true → Way rows t r q (refused t n)
@@ -150,12 +145,12 @@ module _ (rows : List StateRow) (t : Table) where
 
   -- what the line brings to stream i, in record r: refused, or done by its row
   module _ (r : List ℕ) {q : Input} {i : ℕ} {e : Event} (b : Brings t q i e) (n : ℕ) (h : both (ltb 0 n) (ltb n 16) ≡ true) where
-    by_row : (f : Found) → found rows (stream t i) (letter_of e) ≡ f
+    by_row : (f : Option StateRow) → found rows (stream t i) (letter_of e) ≡ f
         → Way rows t r q (conclude t i r (sight_by t i f nothing) (decide_by (sight_by t i f nothing) (brings n e) f))
     unfolding conclude decide_by answer_to
-    by_row Missing f = no n h
-    by_row (At x) f =
-        chosen (λ (d : Decision). Way rows t r q (conclude t i r (sight_by t i (At x) nothing) d)) _ _ _ (λ _. no n h) (λ d. bringing b f (not-false _ d))
+    by_row None f = no n h
+    by_row (Some x) f =
+        chosen (λ (d : Decision). Way rows t r q (conclude t i r (sight_by t i (Some x) nothing) d)) _ _ _ (λ _. no n h) (λ d. bringing b f (not-false _ d))
 
     brought : Way rows t r q (comes rows t i r (brings n e))
     unfolding comes
@@ -227,7 +222,7 @@ module _ (rows : List StateRow) (t : Table) where
 
       -- ---- a message that no refusal stands before: it comes to its stream, and is answered
 
-      module _ {i l n : ℕ} {a : Asked} (e : sound t ≡ true) (roomy : room_size ≤ room) (read : input_of r ≡ input.Message i l n) (s : Sent t i l n)
+      module _ {i l n : ℕ} {a : Result Request Rule} (e : sound t ≡ true) (roomy : room_size ≤ room) (read : input_of r ≡ input.Message i l n) (s : Sent t i l n)
           (asked : asked_by (message_in r l) ≡ a) where
         pub message-comes : step_by rows t r room ≡ comes rows t i r (sends (code_in (message_in r l)) a)
         unfolding step_by of_open message
@@ -240,7 +235,7 @@ module _ (rows : List StateRow) (t : Table) where
             ∙ skip (ltb block_size l) _ _ (le-ltb _ _ s.whole)
             ∙ skip (ltb most_data n) _ _ (le-ltb _ _ s.few)
             ∙ skip (ltb l 4) _ _ (le-ltb _ _ s.coded)
-            ∙ ap (λ (w : Asked). comes rows t i r (sends (code_in (message_in r l)) w)) asked
+            ∙ ap (λ (w : Result Request Rule). comes rows t i r (sends (code_in (message_in r l)) w)) asked
 
         pub answers : Replied rows t i (message_in r l) r a (step_by rows t r room)
         answers = subst (Replied rows t i (message_in r l) r a) (sym message-comes) (answered i (message_in r l) r a asked)

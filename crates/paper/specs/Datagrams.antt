@@ -1,5 +1,5 @@
 -- Document 02, connectionless traffic: the tests of a datagram's address, and the streams that a frame comes to.
-use Rattle.std.specs.Prelude.{ℕ, zero, suc, ◌+◌, Bool, not, List, [], ◌∷◌, ◌++◌, take, eqb, ltb}
+use Rattle.std.specs.Prelude.{ℕ, zero, suc, ◌+◌, Bool, not, List, [], ◌∷◌, ◌++◌, take, eqb, ltb, Err, Ok, Result}
 use Rattle.ledger.specs.Choice.{pick, both, ◌⇒◌∣◌}
 use Rattle.ledger.specs.Lists.{joined}
 use Rattle.octets.specs.Runs.{same_bytes}
@@ -17,8 +17,8 @@ use Rattle.paper.specs.declared.Form.{Form}
 use Rattle.paper.specs.declared.Form.TheVariants.{WithSap, WithType}
 use Rattle.paper.specs.declared.Rule.TheVariants as rule
 use Rattle.paper.specs.declared.Service.TheVariants as service
-use Rattle.paper.specs.declared.Verdict.{Verdict}
-use Rattle.paper.specs.declared.Verdict.TheVariants.{Serves, Fails}
+use Rattle.paper.specs.declared.Rule.{Rule}
+use Rattle.paper.specs.declared.Service.{Service}
 
 -- ---- a datagram
 
@@ -29,13 +29,13 @@ could_be_bound WithType sap = is_type sap
 
 -- BADADDR: not the stream's own form, offset under 20, outside the message (the sum does not wrap), or a SAP no bind could
 -- take.
-unfoldable pub judge_datagram : Stream → UnitdataRequest → Verdict
+unfoldable pub judge_datagram : Stream → UnitdataRequest → Result Service Rule
 judge_datagram s u =
-    not (eqb u.length (length_of (form_of s.sap))) ⇒ Fails rule.DatagramLength
-    ∣ ltb u.offset 20 ⇒ Fails rule.DatagramTooEarly
-    ∣ ltb u.size (u.offset + u.length) ⇒ Fails rule.DatagramTooLate
-    ∣ not (could_be_bound (form_of s.sap) u.sap) ⇒ Fails rule.DatagramSapNotAllowed
-    ∣ Serves (service.Unitdata u.offset (form_of s.sap))
+    not (eqb u.length (length_of (form_of s.sap))) ⇒ Err rule.DatagramLength
+    ∣ ltb u.offset 20 ⇒ Err rule.DatagramTooEarly
+    ∣ ltb u.size (u.offset + u.length) ⇒ Err rule.DatagramTooLate
+    ∣ not (could_be_bound (form_of s.sap) u.sap) ⇒ Err rule.DatagramSapNotAllowed
+    ∣ Ok (service.Unitdata u.offset (form_of s.sap))
 
 -- ---- a frame
 

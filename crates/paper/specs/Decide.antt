@@ -1,5 +1,5 @@
 -- What comes to a stream is refused or has an effect, by its sight alone.
-use Rattle.std.specs.Prelude.{ℕ, Bool, true, not, length, ltb}
+use Rattle.std.specs.Prelude.{ℕ, Bool, true, not, length, ltb, Err, None, Ok, Option, Result, Some}
 use Rattle.ledger.specs.Choice.{◌⇒◌∣◌}
 use Rattle.ledger.specs.Tally.{has}
 use Rattle.paper.specs.Base.{Slot}
@@ -9,13 +9,12 @@ use Rattle.paper.specs.ErrorOrder.{verdict_by}
 use Rattle.paper.specs.declared.Token.{Token}
 use Rattle.paper.specs.declared.Stream.{Stream}
 use Rattle.paper.specs.declared.Rule.TheVariants as rule
-use Rattle.paper.specs.declared.Verdict.{Verdict}
-use Rattle.paper.specs.declared.Verdict.TheVariants.{Serves, Fails}
-use Rattle.paper.specs.declared.Found.{Found}
-use Rattle.paper.specs.declared.Found.TheVariants.{At, Missing}
 use Rattle.paper.specs.declared.Event.{Event}
 use Rattle.paper.specs.declared.Event.TheVariants as event
 use Rattle.paper.specs.declared.Effect.{Effect}
+use Rattle.paper.specs.declared.Rule.{Rule}
+use Rattle.paper.specs.declared.Service.{Service}
+use Rattle.paper.specs.declared.StateRow.{StateRow}
 
 pub data Decision : Type 0 where
   refuses : ℕ → Decision
@@ -24,10 +23,10 @@ pub data Decision : Type 0 where
 -- A message of this code, by its state row and the verdict on it: the answer to the rule that fails it, or what the row does
 -- where it is served.
 -- (With no row nothing is: `verdict_by`.)
-unfoldable pub effect_by : Found → Token → ℕ → Stream → Verdict → Effect
-effect_by f k code s (Fails r) = error_effect code r
-effect_by (At x) k code s (Serves v) = effect_of x k s v
-effect_by Missing k code s (Serves v) = error_effect code rule.NoRow
+unfoldable pub effect_by : Option StateRow → Token → ℕ → Stream → Result Service Rule → Effect
+effect_by f k code s (Err r) = error_effect code r
+effect_by (Some x) k code s (Ok v) = effect_of x k s v
+effect_by None k code s (Ok v) = error_effect code rule.NoRow
 
 -- Whether an event with a row may come: W if its number is open on that stream, I if its listener has less than its
 -- granted count open, any other always.
@@ -40,10 +39,10 @@ is_due x (event.Resets reason) = true
 is_due x event.Confirmed = true
 
 -- (The last argument is the sight's row.)
-unfoldable pub decide_by : Sight → Coming → Found → Decision
+unfoldable pub decide_by : Sight → Coming → Option StateRow → Decision
 decide_by s (sends code a) f = does (effect_by f s.token code s.own.stream (verdict_by s a f))
-decide_by s (brings refusal e) Missing = refuses refusal
-decide_by s (brings refusal e) (At x) =
+decide_by s (brings refusal e) None = refuses refusal
+decide_by s (brings refusal e) (Some x) =
     not (is_due s.own e) ⇒ refuses refusal ∣ does (event_effect x s.own.stream e)
 
 abbrev pub decide : Sight → Coming → Decision

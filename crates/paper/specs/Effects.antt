@@ -1,6 +1,6 @@
 -- 'State rows', what each does, as a value: an effect. First the table after an effect and its records, then the effect of
 -- each row.
-use Rattle.std.specs.Prelude.{ℕ, Bool, true, false, not, List, [], ◌∷◌, ◌++◌, eqb}
+use Rattle.std.specs.Prelude.{ℕ, Bool, true, false, not, List, [], ◌∷◌, ◌++◌, eqb, None, Option, Some}
 use Rattle.ledger.specs.Choice.{pick}
 use Rattle.ledger.specs.Tally.{without}
 use Rattle.octets.specs.Runs.{part}
@@ -27,12 +27,8 @@ use Rattle.paper.specs.declared.Change.{Change}
 use Rattle.paper.specs.declared.Change.TheVariants.{Stays, Becomes, Takes, Loses}
 use Rattle.paper.specs.declared.LineOrder.{LineOrder}
 use Rattle.paper.specs.declared.LineOrder.TheVariants as line_order
-use Rattle.paper.specs.declared.Telling.{Telling}
-use Rattle.paper.specs.declared.Telling.TheVariants.{Untold, Tells}
 use Rattle.paper.specs.declared.Reply.{Reply}
 use Rattle.paper.specs.declared.Reply.TheVariants as reply
-use Rattle.paper.specs.declared.Saying.{Saying}
-use Rattle.paper.specs.declared.Saying.TheVariants.{Unsaid, Says}
 use Rattle.paper.specs.declared.Effect.{Effect}
 
 -- ---- the table after an effect on stream i, where stream c carries
@@ -89,9 +85,9 @@ data_behind i r line_order.Reset = []
 data_behind i r line_order.ResetAnswer = []
 data_behind i r (line_order.Unitdata at form) = datum i (data_in r) ∷ []
 
-unfoldable pub orders_in : ℕ → ℕ → Slot → List ℕ → Telling → List Record
-orders_in i c own r Untold = []
-orders_in i c own r (Tells o) = order (named_by i c o) o (behind_order own r o) ∷ data_behind i r o
+unfoldable pub orders_in : ℕ → ℕ → Slot → List ℕ → Option LineOrder → List Record
+orders_in i c own r None = []
+orders_in i c own r (Some o) = order (named_by i c o) o (behind_order own r o) ∷ data_behind i r o
 
 -- what stands behind the fields of a message up
 unfoldable pub behind_reply : List ℕ → List ℕ → Reply → List ℕ
@@ -107,9 +103,9 @@ behind_reply mac r (reply.ResetInd reason) = []
 behind_reply mac r reply.ResetCon = []
 behind_reply mac r (reply.UderrorInd error) = []
 
-unfoldable pub ups_in : ℕ → List ℕ → List ℕ → Saying → List Record
-ups_in i mac r Unsaid = []
-ups_in i mac r (Says reply) = up i reply (behind_reply mac r reply) ∷ []
+unfoldable pub ups_in : ℕ → List ℕ → List ℕ → Option Reply → List Record
+ups_in i mac r None = []
+ups_in i mac r (Some reply) = up i reply (behind_reply mac r reply) ∷ []
 
 -- the records of an effect, in their order
 unfoldable pub told : ℕ → ℕ → Slot → List ℕ → List ℕ → Effect → List Record
@@ -142,59 +138,59 @@ bound_in q p mode sap granted = record { state = q; mode = mode; sap = sap; ppa 
 -- ---- the effects
 
 -- of one stream alone
-abbrev pub acting : Change → Telling → Bool → Saying → Effect
+abbrev pub acting : Change → Option LineOrder → Bool → Option Reply → Effect
 acting c o f u = record { change = c; carries = false; order = o; flush = f; up = u }
 
 -- A message that breaks a rule changes nothing.
 abbrev pub error_effect : ℕ → Rule → Effect
-error_effect code r = acting Stays Untold false (Says (reply_by code (complaint_of r)))
+error_effect code r = acting Stays None false (Some (reply_by code (complaint_of r)))
 
 -- A request with a reply gets INFO_ACK, BIND_ACK, TOKEN_ACK or else OK_ACK, which has the request's code: the row's cause.
-abbrev pub ok : StateRow → Saying
-ok x = Says (reply.OkAck x.cause)
+abbrev pub ok : StateRow → Option Reply
+ok x = Some (reply.OkAck x.cause)
 
 abbrev pub no_number : Correlation
 no_number = record { 0 = 0 }
 
 -- CONNECT_RES: the listener loses the indication, and the stream that the token names carries the call
 abbrev pub accepting : StateRow → Stream → Correlation → Effect
-accepting x s n = record { change = less x s n; carries = true; order = Tells (line_order.Accept n); flush = false; up = ok x }
+accepting x s n = record { change = less x s n; carries = true; order = Some (line_order.Accept n); flush = false; up = ok x }
 
 -- Row x serves a request of the stream with token k, which stands as s.
 unfoldable pub effect_of : StateRow → Token → Stream → Service → Effect
-effect_of x k s service.Inform = acting (unchanged x s) Untold false (Says (reply.InfoAck s))
-effect_of x k s service.TellToken = acting (unchanged x s) Untold false (Says (reply.TokenAck k))
-effect_of x k s (service.Attach p) = acting (Becomes (attached_in (next x) p)) Untold false (ok x)
-effect_of x k s service.Detach = acting (onward x s) Untold false (ok x)
+effect_of x k s service.Inform = acting (unchanged x s) None false (Some (reply.InfoAck s))
+effect_of x k s service.TellToken = acting (unchanged x s) None false (Some (reply.TokenAck k))
+effect_of x k s (service.Attach p) = acting (Becomes (attached_in (next x) p)) None false (ok x)
+effect_of x k s service.Detach = acting (onward x s) None false (ok x)
 effect_of x k s (service.Bind mode sap granted) =
-    acting (Becomes (bound_in (next x) s.ppa mode sap granted)) Untold false (Says (reply.BindAck sap granted))
+    acting (Becomes (bound_in (next x) s.ppa mode sap granted)) None false (Some (reply.BindAck sap granted))
 -- with F
-effect_of x k s service.Unbind = acting (onward x s) Untold true (ok x)
+effect_of x k s service.Unbind = acting (onward x s) None true (ok x)
 -- c, no reply
-effect_of x k s (service.Connect at) = acting (onward x s) (Tells (line_order.Connect at)) false Unsaid
+effect_of x k s (service.Connect at) = acting (onward x s) (Some (line_order.Connect at)) false None
 -- a
 effect_of x k s (service.Accept n) = accepting x s n
 -- d, from 9; and from 8, 11, 12, 13, with F from the last three
-effect_of x k s (service.Deny n reason) = acting (less x s n) (Tells (line_order.Disconnect n reason)) false (ok x)
+effect_of x k s (service.Deny n reason) = acting (less x s n) (Some (line_order.Disconnect n reason)) false (ok x)
 effect_of x k s (service.Disconnect reason) =
-    acting (onward x s) (Tells (line_order.Disconnect no_number reason)) (is_among joined_states s) (ok x)
+    acting (onward x s) (Some (line_order.Disconnect no_number reason)) (is_among joined_states s) (ok x)
 -- r, no reply; s
-effect_of x k s service.Reset = acting (onward x s) (Tells line_order.Reset) false Unsaid
-effect_of x k s service.ResetRes = acting (onward x s) (Tells line_order.ResetAnswer) false (ok x)
+effect_of x k s service.Reset = acting (onward x s) (Some line_order.Reset) false None
+effect_of x k s service.ResetRes = acting (onward x s) (Some line_order.ResetAnswer) false (ok x)
 -- u and its M, no reply
-effect_of x k s (service.Unitdata at form) = acting (unchanged x s) (Tells (line_order.Unitdata at form)) false Unsaid
+effect_of x k s (service.Unitdata at form) = acting (unchanged x s) (Some (line_order.Unitdata at form)) false None
 
 -- What the line brings to a stream that stands as s, by row x.
 unfoldable pub event_effect : StateRow → Stream → Event → Effect
 -- I: CONNECT_IND
-event_effect x s (event.Arrives n) = acting (more x s n) Untold false (Says (reply.ConnectInd n))
+event_effect x s (event.Arrives n) = acting (more x s n) None false (Some (reply.ConnectInd n))
 -- A: CONNECT_CON
-event_effect x s event.Accepted = acting (onward x s) Untold false (Says reply.ConnectCon)
+event_effect x s event.Accepted = acting (onward x s) None false (Some reply.ConnectCon)
 -- D: F except from 8, DISCONNECT_IND, correlation 0
-event_effect x s (event.Gone reason) = acting (onward x s) Untold (not (is_in 8 s)) (Says (reply.DisconnectInd reason no_number))
+event_effect x s (event.Gone reason) = acting (onward x s) None (not (is_in 8 s)) (Some (reply.DisconnectInd reason no_number))
 -- W: DISCONNECT_IND with the number
-event_effect x s (event.Withdrawn n reason) = acting (less x s n) Untold false (Says (reply.DisconnectInd reason n))
+event_effect x s (event.Withdrawn n reason) = acting (less x s n) None false (Some (reply.DisconnectInd reason n))
 -- R: F, RESET_IND
-event_effect x s (event.Resets reason) = acting (onward x s) Untold true (Says (reply.ResetInd reason))
+event_effect x s (event.Resets reason) = acting (onward x s) None true (Some (reply.ResetInd reason))
 -- S: F, RESET_CON
-event_effect x s event.Confirmed = acting (onward x s) Untold true (Says reply.ResetCon)
+event_effect x s event.Confirmed = acting (onward x s) None true (Some reply.ResetCon)

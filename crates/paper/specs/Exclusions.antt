@@ -1,11 +1,9 @@
 -- Document 02, the SAP test: each exclusion beside the manual's place that makes it. What document 01 says of the same numbers is
 -- `is_sap` and `is_type` (Saps); that the two agree on every number is `tied` (proofs/Exclusions).
-use Rattle.std.specs.Prelude.{ℕ, ◌+◌, ◌*◌, ◌%◌, Bool, true, false, List, [], ◌∷◌, eqb, leb}
+use Rattle.std.specs.Prelude.{ℕ, ◌+◌, ◌*◌, ◌%◌, Bool, true, false, List, [], ◌∷◌, eqb, leb, None, Option, Some}
 use Rattle.ledger.specs.Choice.{both, ◌⇒◌∣◌}
 use Rattle.paper.specs.Replies.{sap_length}
 use Rattle.paper.specs.declared.Exclusion.{Exclusion}
-use Rattle.paper.specs.declared.Excluded.{Excluded}
-use Rattle.paper.specs.declared.Excluded.TheVariants.{By, Not}
 use Rattle.paper.specs.declared.Ground.{Ground}
 use Rattle.paper.specs.declared.Ground.TheVariants.{OddSap, ReservedSap, BetweenSapsAndTypes, AboveTypes}
 use Rattle.paper.specs.declared.Which.{Which}
@@ -42,17 +40,17 @@ unfoldable pub excludes : Exclusion → ℕ → Bool
 excludes x n = both (leb x.first n) (both (leb n x.last) (is_of x.which n))
 
 -- which exclusion holds: the first that does
-abbrev pub excluded_in : List Exclusion → ℕ → Excluded
-excluded_in [] n = Not
-excluded_in (x ∷ l) n = excludes x n ⇒ By x ∣ excluded_in l n
+abbrev pub excluded_in : List Exclusion → ℕ → Option Exclusion
+excluded_in [] n = None
+excluded_in (x ∷ l) n = excludes x n ⇒ Some x ∣ excluded_in l n
 
-unfoldable pub excluded_by : ℕ → Excluded
+unfoldable pub excluded_by : ℕ → Option Exclusion
 excluded_by n = excluded_in exclusions n
 
 -- the test of a bind is that none does
-abbrev pub is_none : Excluded → Bool
-is_none Not = true
-is_none (By x) = false
+abbrev pub is_none : Option Exclusion → Bool
+is_none None = true
+is_none (Some x) = false
 
 -- ---- what C is told of a number (docs/DECISIONS.md, 92)
 
@@ -68,9 +66,9 @@ place_number ReservedSapsAndTypes = 2
 
 -- In bits 0 to 7 how many bytes it takes in an address, 0 if it is excluded; in 8 to 15 the exclusion, in 16 to 23 the manual's
 -- place.
-unfoldable pub telling_of : ℕ → Excluded → ℕ
-telling_of n Not = sap_length n
-telling_of n (By x) = ground_number x.grounds * 256 + place_number x.place * 65536
+unfoldable pub telling_of : ℕ → Option Exclusion → ℕ
+telling_of n None = sap_length n
+telling_of n (Some x) = ground_number x.grounds * 256 + place_number x.place * 65536
 
 unfoldable pub sap_telling : ℕ → ℕ
 sap_telling n = telling_of n (excluded_by n)

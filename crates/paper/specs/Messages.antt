@@ -1,5 +1,5 @@
 -- 'Messages', the ones from a user: codes, fields and sizes. L may exceed the fixed size.
-use Rattle.std.specs.Prelude.{ℕ, ◌+◌, List, [], ◌∷◌, length, get_or, eqb, ltb}
+use Rattle.std.specs.Prelude.{ℕ, ◌+◌, List, [], ◌∷◌, length, get_or, eqb, ltb, Err, Ok, Result}
 use Rattle.ledger.specs.Choice.{◌⇒◌∣◌}
 use Rattle.ledger.specs.Tally.{has}
 use Rattle.octets.specs.Numbers.{be16_at, be32_at}
@@ -10,8 +10,7 @@ use Rattle.paper.specs.declared.Primitive.TheVariants as primitive
 use Rattle.paper.specs.declared.Request.{Request}
 use Rattle.paper.specs.declared.Request.TheVariants as request
 use Rattle.paper.specs.declared.Rule.TheVariants as rule
-use Rattle.paper.specs.declared.Asked.{Asked}
-use Rattle.paper.specs.declared.Asked.TheVariants.{For, Wrong}
+use Rattle.paper.specs.declared.Rule.{Rule}
 
 abbrev pub code_in : List ℕ → ℕ
 code_in m = be32_at m 0
@@ -41,11 +40,11 @@ primitive_of code =
     ∣ other_code code
 
 -- L under the size is a rule of step 1 that fails.
-unfoldable pub sized : ℕ → List ℕ → Request → Asked
-sized size m q = ltb (length m) size ⇒ Wrong rule.TooShort ∣ For q
+unfoldable pub sized : ℕ → List ℕ → Request → Result Request Rule
+sized size m q = ltb (length m) size ⇒ Err rule.TooShort ∣ Ok q
 
 -- The fields after the code, and the size. Growth and QOS offset are not read.
-abbrev pub read_as : Primitive → List ℕ → Asked
+abbrev pub read_as : Primitive → List ℕ → Result Request Rule
 read_as primitive.Info m = sized 4 m request.Info
 read_as primitive.Attach m = sized 8 m (request.Attach (record { 0 = be32_at m 4 }))
 read_as primitive.Detach m = sized 4 m request.Detach
@@ -66,9 +65,9 @@ read_as primitive.ResetRes m = sized 4 m request.ResetRes
 read_as primitive.Unitdata m =
     sized 20 m
     (request.Unitdata (record { length = be32_at m 4; offset = be32_at m 8; size = length m; sap = sap_at m (form_in (be32_at m 4)) (be32_at m 8 + mac_size) }))
-read_as primitive.NotSupported m = Wrong rule.NotSupported
-read_as primitive.NotServed m = Wrong rule.NotServed
+read_as primitive.NotSupported m = Err rule.NotSupported
+read_as primitive.NotServed m = Err rule.NotServed
 
 -- Step 1 of the order of errors: what a message of at least four bytes asks for.
-unfoldable pub asked_by : List ℕ → Asked
+unfoldable pub asked_by : List ℕ → Result Request Rule
 asked_by m = read_as (primitive_of (code_in m)) m

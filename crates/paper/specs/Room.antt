@@ -1,16 +1,13 @@
 -- How much room a call needs, and how many bytes what it does may take.
-use Rattle.std.specs.Prelude.{ℕ, ◌+◌, ◌≤◌}
+use Rattle.std.specs.Prelude.{ℕ, ◌+◌, ◌≤◌, None, Option, Some}
 use Rattle.paper.specs.RecordsIn.{message_size, data_size}
 use Rattle.paper.specs.RecordsOut.{start_size, disconnect_size, unitdata_size}
 use Rattle.paper.specs.declared.Input.{Input}
 use Rattle.paper.specs.declared.Input.TheVariants as input
 use Rattle.paper.specs.declared.LineOrder.{LineOrder}
 use Rattle.paper.specs.declared.LineOrder.TheVariants as line_order
-use Rattle.paper.specs.declared.Telling.{Telling}
-use Rattle.paper.specs.declared.Telling.TheVariants.{Untold, Tells}
-use Rattle.paper.specs.declared.Saying.{Saying}
-use Rattle.paper.specs.declared.Saying.TheVariants.{Unsaid, Says}
 use Rattle.paper.specs.declared.Effect.{Effect}
+use Rattle.paper.specs.declared.Reply.{Reply}
 
 -- A call needs 128 bytes of room, however little it writes.
 abbrev pub room_size : ℕ
@@ -45,13 +42,13 @@ most_of_order line_order.Reset = disconnect_size
 most_of_order line_order.ResetAnswer = disconnect_size
 most_of_order (line_order.Unitdata at form) = unitdata_size + data_size
 
-abbrev pub most_told : Telling → ℕ
-most_told Untold = 0
-most_told (Tells o) = most_of_order o
+abbrev pub most_told : Option LineOrder → ℕ
+most_told None = 0
+most_told (Some o) = most_of_order o
 
-abbrev pub most_said : Saying → ℕ
-most_said Unsaid = 0
-most_said (Says r) = message_size
+abbrev pub most_said : Option Reply → ℕ
+most_said None = 0
+most_said (Some r) = message_size
 
 -- so that the room is enough
 abbrev pub Fits : Effect → Type 0

@@ -1,11 +1,9 @@
 -- 'State rows', as one table, in the paper's order.
-use Rattle.std.specs.Prelude.{ℕ, Bool, true, false, List, [], ◌∷◌, ◌++◌, map, eqb}
+use Rattle.std.specs.Prelude.{ℕ, Bool, true, false, List, [], ◌∷◌, ◌++◌, map, eqb, None, Option, Some}
 use Rattle.ledger.specs.Choice.{pick, both}
 use Rattle.paper.specs.Base.{number}
 use Rattle.paper.specs.declared.Stream.{Stream}
 use Rattle.paper.specs.declared.StateRow.{StateRow}
-use Rattle.paper.specs.declared.Found.{Found}
-use Rattle.paper.specs.declared.Found.TheVariants.{At, Missing}
 
 -- ---- what comes to a stream: a request, by its code, or an event, by its letter
 abbrev pub info_req : ℕ
@@ -142,14 +140,14 @@ abbrev pub is_row : ℕ → ℕ → ℕ → StateRow → Bool
 is_row state mode cause x = both (eqb x.cause cause) (both (eqb x.from state) (eqb x.mode mode))
 
 -- the first of a list, or none
-abbrev pub found_in : List StateRow → ℕ → ℕ → ℕ → Found
-found_in [] state mode cause = Missing
-found_in (x ∷ rows) state mode cause = pick (is_row state mode cause x) (At x) (found_in rows state mode cause)
+abbrev pub found_in : List StateRow → ℕ → ℕ → ℕ → Option StateRow
+found_in [] state mode cause = None
+found_in (x ∷ rows) state mode cause = pick (is_row state mode cause x) (Some x) (found_in rows state mode cause)
 
-unfoldable pub found : List StateRow → Stream → ℕ → Found
+unfoldable pub found : List StateRow → Stream → ℕ → Option StateRow
 found rows s cause = found_in rows (number s) s.mode cause
 
 -- there is one
-abbrev pub is_found : Found → Bool
-is_found (At x) = true
-is_found Missing = false
+abbrev pub is_found : Option StateRow → Bool
+is_found (Some x) = true
+is_found None = false

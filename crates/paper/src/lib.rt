@@ -169,13 +169,6 @@ pub struct Exclusion {
     pub place: Place,
 }
 
-// The exclusion that holds of a number.
-#[derive(Clone, Copy)]
-pub enum Excluded {
-    By(Exclusion),
-    Not,
-}
-
 // A stream, but for the numbers of its open indications. What it does not hold is zero.
 #[derive(Clone, Copy)]
 pub struct Stream {
@@ -366,13 +359,6 @@ pub enum Rule {
     DatagramSapNotAllowed,
 }
 
-// What a message with a code comes to: a request, or a rule of step 1 that fails.
-#[derive(Clone, Copy)]
-pub enum Asked {
-    For(Request),
-    Wrong(Rule),
-}
-
 // What the token of an accept names.
 #[derive(Clone, Copy)]
 pub enum Carrier {
@@ -404,13 +390,6 @@ pub enum Service {
     Unitdata(u8, Form),
 }
 
-// What the order of errors comes to.
-#[derive(Clone, Copy)]
-pub enum Verdict {
-    Serves(Service),
-    Fails(Rule),
-}
-
 // A state row: on a stream in this state and mode (0 while it is unbound), what comes (a request's code or an event's
 // letter) leads to a state, and to another where the last open indication goes with it.
 #[derive(Clone, Copy)]
@@ -420,13 +399,6 @@ pub struct StateRow {
     pub cause: u8,
     pub to: u8,
     pub last: u8,
-}
-
-// A stream's row for what comes.
-#[derive(Clone, Copy)]
-pub enum Found {
-    At(StateRow),
-    Missing,
 }
 
 // What the line brings to a stream.
@@ -489,26 +461,12 @@ pub enum Reply {
     UderrorInd(u32),
 }
 
-// What a call tells the line.
-#[derive(Clone, Copy)]
-pub enum Telling {
-    Untold,
-    Tells(LineOrder),
-}
-
-// What a call says to its stream's user.
-#[derive(Clone, Copy)]
-pub enum Saying {
-    Unsaid,
-    Says(Reply),
-}
-
 // What a served call does. It names no stream: `carries` is whether the stream that the token names goes to 11.
 #[derive(Clone, Copy)]
 pub struct Effect {
     pub change: Change,
     pub carries: bool,
-    pub order: Telling,
+    pub order: Option<LineOrder>,
     pub flush: bool,
-    pub up: Saying,
+    pub up: Option<Reply>,
 }

@@ -1,16 +1,12 @@
 // What a service or an event does, by value.
 #![tactic(auto)]
 
-ghost use Rattle.std.specs.Prelude.{◌≡◌};
+ghost use Rattle.std.specs.Prelude.{◌≡◌, Some};
 ghost use Rattle.paper.specs.ErrorCodes.{complaint_of, reply_by};
 ghost use Rattle.paper.specs.Effects.{next, onward, unchanged, more, less, bound_in, acting, error_effect, ok, no_number, accepting, effect_of, event_effect};
 ghost use Rattle.paper.specs.Decide.{effect_by};
-ghost use Rattle.paper.specs.declared.Found.TheVariants as found;
 
-use paper::{
-    Change, Correlation, Effect, Event, LineOrder, PpaNumber, Reply, Rule, Saying, Service, State,
-    StateRow, Stream, Telling, Token, Verdict,
-};
+use paper::{Change, Correlation, Effect, Event, LineOrder, PpaNumber, Reply, Rule, Service, State, StateRow, Stream, Token};
 
 // ---- what becomes of a stream by row x
 
@@ -66,7 +62,7 @@ fn bound_in(q: State, p: PpaNumber, mode: u8, sap: u16, granted: u8) -> Stream
 // ---- the effects
 
 // Of one stream alone.
-fn acting(change: Change, order: Telling, flush: bool, up: Saying) -> Effect
+fn acting(change: Change, order: Option<LineOrder>, flush: bool, up: Option<Reply>) -> Effect
     ensures { result ≡ acting change order flush up }
 {
     Effect {
@@ -97,14 +93,14 @@ fn complaint(code: u32, rule: Rule) -> Reply
 pub fn error_effect(code: u32, rule: Rule) -> Effect
     ensures { result ≡ error_effect code rule }
 {
-    let up = Saying::Says(complaint(code, rule));
-    acting(Change::Stays, Telling::Untold, false, up)
+    let up = Some(complaint(code, rule));
+    acting(Change::Stays, None, false, up)
 }
 
-fn ok(x: StateRow) -> Saying
+fn ok(x: StateRow) -> Option<Reply>
     ensures { result ≡ ok x }
 {
-    Saying::Says(Reply::OkAck(octets::wide(x.cause)))
+    Some(Reply::OkAck(octets::wide(x.cause)))
 }
 
 fn no_number() -> Correlation
@@ -120,7 +116,7 @@ fn accepting(x: StateRow, s: Stream, n: Correlation) -> Effect
     Effect {
         change: less(x, s, n),
         carries: true,
-        order: Telling::Tells(LineOrder::Accept(n)),
+        order: Some(LineOrder::Accept(n)),
         flush: false,
         up: ok(x),
     }
@@ -132,55 +128,55 @@ fn effect_of(x: StateRow, k: Token, s: Stream, v: Service) -> Effect
 {
     match v {
         Service::Inform => {
-            let up = Saying::Says(Reply::InfoAck(s));
-            acting(unchanged(x, s), Telling::Untold, false, up)
+            let up = Some(Reply::InfoAck(s));
+            acting(unchanged(x, s), None, false, up)
         }
         Service::TellToken => {
-            let up = Saying::Says(Reply::TokenAck(k));
-            acting(unchanged(x, s), Telling::Untold, false, up)
+            let up = Some(Reply::TokenAck(k));
+            acting(unchanged(x, s), None, false, up)
         }
         Service::Attach(p) => {
             let change = Change::Becomes(paper_rules::attached_in(next(x), p));
-            acting(change, Telling::Untold, false, ok(x))
+            acting(change, None, false, ok(x))
         }
-        Service::Detach => acting(onward(x, s), Telling::Untold, false, ok(x)),
+        Service::Detach => acting(onward(x, s), None, false, ok(x)),
         Service::Bind(mode, sap, granted) => {
             let p = s.ppa;
             let change = Change::Becomes(bound_in(next(x), p, mode, sap, granted));
-            let up = Saying::Says(Reply::BindAck(sap, granted));
-            acting(change, Telling::Untold, false, up)
+            let up = Some(Reply::BindAck(sap, granted));
+            acting(change, None, false, up)
         }
         // with F
-        Service::Unbind => acting(onward(x, s), Telling::Untold, true, ok(x)),
+        Service::Unbind => acting(onward(x, s), None, true, ok(x)),
         // c, no reply
         Service::Connect(at) => {
-            let order = Telling::Tells(LineOrder::Connect(at));
-            acting(onward(x, s), order, false, Saying::Unsaid)
+            let order = Some(LineOrder::Connect(at));
+            acting(onward(x, s), order, false, None)
         }
         Service::Accept(n) => accepting(x, s, n),
         // d, from 9; and from 8, 11, 12, 13, with F from the last three
         Service::Deny(n, reason) => {
-            let order = Telling::Tells(LineOrder::Disconnect(n, reason));
+            let order = Some(LineOrder::Disconnect(n, reason));
             acting(less(x, s, n), order, false, ok(x))
         }
         Service::Disconnect(reason) => {
-            let order = Telling::Tells(LineOrder::Disconnect(no_number(), reason));
+            let order = Some(LineOrder::Disconnect(no_number(), reason));
             let q = s.state;
             acting(onward(x, s), order, paper::is_joined(q), ok(x))
         }
         // r, no reply; s
         Service::Reset => {
-            let order = Telling::Tells(LineOrder::Reset);
-            acting(onward(x, s), order, false, Saying::Unsaid)
+            let order = Some(LineOrder::Reset);
+            acting(onward(x, s), order, false, None)
         }
         Service::ResetRes => {
-            let order = Telling::Tells(LineOrder::ResetAnswer);
+            let order = Some(LineOrder::ResetAnswer);
             acting(onward(x, s), order, false, ok(x))
         }
         // u and its M, no reply
         Service::Unitdata(at, form) => {
-            let order = Telling::Tells(LineOrder::Unitdata(at, form));
-            acting(unchanged(x, s), order, false, Saying::Unsaid)
+            let order = Some(LineOrder::Unitdata(at, form));
+            acting(unchanged(x, s), order, false, None)
         }
     }
 }
@@ -192,44 +188,44 @@ pub fn event_effect(x: StateRow, s: Stream, event: Event) -> Effect
     match event {
         // I: CONNECT_IND
         Event::Arrives(n) => {
-            let up = Saying::Says(Reply::ConnectInd(n));
-            acting(more(x, s, n), Telling::Untold, false, up)
+            let up = Some(Reply::ConnectInd(n));
+            acting(more(x, s, n), None, false, up)
         }
         // A: CONNECT_CON
         Event::Accepted => {
-            let up = Saying::Says(Reply::ConnectCon);
-            acting(onward(x, s), Telling::Untold, false, up)
+            let up = Some(Reply::ConnectCon);
+            acting(onward(x, s), None, false, up)
         }
         // D: F except from 8, DISCONNECT_IND, correlation 0
         Event::Gone(reason) => {
             let flush = paper_rules::state_number(s) != 8;
-            let up = Saying::Says(Reply::DisconnectInd(reason, no_number()));
-            acting(onward(x, s), Telling::Untold, flush, up)
+            let up = Some(Reply::DisconnectInd(reason, no_number()));
+            acting(onward(x, s), None, flush, up)
         }
         // W: DISCONNECT_IND with the number
         Event::Withdrawn(n, reason) => {
-            let up = Saying::Says(Reply::DisconnectInd(reason, n));
-            acting(less(x, s, n), Telling::Untold, false, up)
+            let up = Some(Reply::DisconnectInd(reason, n));
+            acting(less(x, s, n), None, false, up)
         }
         // R: F, RESET_IND
         Event::Resets(reason) => {
-            let up = Saying::Says(Reply::ResetInd(reason));
-            acting(onward(x, s), Telling::Untold, true, up)
+            let up = Some(Reply::ResetInd(reason));
+            acting(onward(x, s), None, true, up)
         }
         // S: F, RESET_CON
         Event::Confirmed => {
-            let up = Saying::Says(Reply::ResetCon);
-            acting(onward(x, s), Telling::Untold, true, up)
+            let up = Some(Reply::ResetCon);
+            acting(onward(x, s), None, true, up)
         }
     }
 }
 
 // The error of a rule that fails, to a message of this code, or what row x does that serves it.
-pub fn effect_by(x: StateRow, k: Token, code: u32, s: Stream, verdict: Verdict) -> Effect
-    ensures { result ≡ effect_by (found.At x) k code s verdict }
+pub fn effect_by(x: StateRow, k: Token, code: u32, s: Stream, verdict: Result<Service, Rule>) -> Effect
+    ensures { result ≡ effect_by (Some x) k code s verdict }
 {
     match verdict {
-        Verdict::Fails(rule) => error_effect(code, rule),
-        Verdict::Serves(v) => effect_of(x, k, s, v),
+        Err(rule) => error_effect(code, rule),
+        Ok(v) => effect_of(x, k, s, v),
     }
 }

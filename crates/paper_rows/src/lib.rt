@@ -8,7 +8,7 @@ ghost use Rattle.paper.specs.StateRows.{stays, seats, state_rows, frame_arrives,
 ghost use Rattle.paper.specs.Sight.{request_asks, letter_of};
 ghost use Rattle.paper_rows.specs.Courses.{along};
 
-use paper::{Event, Found, Request, StateRow, Stream};
+use paper::{Event, Request, StateRow, Stream};
 
 // ---- what comes to a stream
 
@@ -144,20 +144,20 @@ fn event_course(state: u8, event: Event) -> Course
 // ---- a stream's row for what comes
 
 // A row, if it is that of a state and a mode.
-fn row_in(x: StateRow, state: u8, mode: u8) -> Found
+fn row_in(x: StateRow, state: u8, mode: u8) -> Option<StateRow>
     ensures { result ≡ found_in (x ∷ []) state mode x.cause }
 {
     if x.from != state {
-        return Found::Missing;
+        return None;
     }
     if x.mode != mode {
-        return Found::Missing;
+        return None;
     }
-    Found::At(x)
+    Some(x)
 }
 
 // A row of this cause, if it is the stream's.
-fn row_along(s: Stream, cause: u8, course: Course) -> Found
+fn row_along(s: Stream, cause: u8, course: Course) -> Option<StateRow>
     ensures { result ≡ along course (number s) s.mode cause }
 {
     let q = s.state;
@@ -186,7 +186,7 @@ fn row_along(s: Stream, cause: u8, course: Course) -> Found
     }
 }
 
-pub fn request_row(s: Stream, q: Request) -> Found
+pub fn request_row(s: Stream, q: Request) -> Option<StateRow>
     ensures { result ≡ found state_rows s (request_asks q).cause }
 {
     let state = s.state;
@@ -194,7 +194,7 @@ pub fn request_row(s: Stream, q: Request) -> Found
     row_along(s, code_of(q), course)
 }
 
-pub fn event_row(s: Stream, event: Event) -> Found
+pub fn event_row(s: Stream, event: Event) -> Option<StateRow>
     ensures { result ≡ found state_rows s (letter_of event) }
 {
     let state = s.state;

@@ -3,7 +3,7 @@ ghost use Rattle.std.specs.Prelude.{◌≡◌};
 ghost use Rattle.paper.specs.Datagrams.{could_be_bound, judge_datagram};
 
 use crate::saps::{is_sap, is_type};
-use paper::{Form, Rule, Service, Stream, UnitdataRequest, Verdict};
+use paper::{Form, Rule, Service, Stream, UnitdataRequest};
 
 // A SAP that a bind could take: one byte is a SAP, two bytes are a type.
 fn could_be_bound(form: Form, sap: u16) -> bool
@@ -16,24 +16,24 @@ fn could_be_bound(form: Form, sap: u16) -> bool
 }
 
 // The address has the stream's own form, and lies behind the fixed fields and within L.
-pub fn judge_datagram(s: Stream, u: UnitdataRequest) -> Verdict
+pub fn judge_datagram(s: Stream, u: UnitdataRequest) -> Result<Service, Rule>
     ensures { result ≡ judge_datagram s u }
 {
     let form = paper::form_of(s.sap);
     if u.length as usize != paper::length_of(form) {
-        return Verdict::Fails(Rule::DatagramLength);
+        return Err(Rule::DatagramLength);
     }
     let at = u.offset;
     if at < 20 {
-        return Verdict::Fails(Rule::DatagramTooEarly);
+        return Err(Rule::DatagramTooEarly);
     }
     // the sum does not wrap
     let end = at as u64 + u.length as u64;
     if (u.size as u64) < end {
-        return Verdict::Fails(Rule::DatagramTooLate);
+        return Err(Rule::DatagramTooLate);
     }
     if !could_be_bound(form, u.sap) {
-        return Verdict::Fails(Rule::DatagramSapNotAllowed);
+        return Err(Rule::DatagramSapNotAllowed);
     }
-    Verdict::Serves(Service::Unitdata(at as u8, form))
+    Ok(Service::Unitdata(at as u8, form))
 }

@@ -2,7 +2,7 @@
 ghost use Rattle.std.specs.Prelude.{◌≡◌};
 ghost use Rattle.paper.specs.Exclusions.{exclusions, is_of, excludes, excluded_in, excluded_by, is_none};
 
-use paper::{Excluded, Exclusion, Ground, Place, Which};
+use paper::{Exclusion, Ground, Place, Which};
 
 const EXCLUSION_TOTAL: usize = 4;
 
@@ -70,22 +70,22 @@ fn excludes(x: Exclusion, n: u32) -> bool
 }
 
 // The first that holds.
-fn excluded_in(l: [Exclusion; EXCLUSION_TOTAL], n: u32) -> Excluded
+fn excluded_in(l: [Exclusion; EXCLUSION_TOTAL], n: u32) -> Option<Exclusion>
     ensures { result ≡ excluded_in l n }
 {
     let mut k = 0;
     while k < EXCLUSION_TOTAL {
         let x = l[k];
         if excludes(x, n) {
-            return Excluded::By(x);
+            return Some(x);
         }
         k += 1;
     }
-    Excluded::Not
+    None
 }
 
 // Which exclusion holds of a number.
-pub fn excluded_by(n: u32) -> Excluded
+pub fn excluded_by(n: u32) -> Option<Exclusion>
     ensures { result ≡ excluded_by n }
 {
     excluded_in(exclusions(), n)
@@ -95,9 +95,5 @@ pub fn excluded_by(n: u32) -> Excluded
 pub fn none_excludes(n: u32) -> bool
     ensures { result ≡ is_none (excluded_by n) }
 {
-    let by = excluded_by(n);
-    match by {
-        Excluded::By(_) => false,
-        Excluded::Not => true,
-    }
+    excluded_by(n).is_none()
 }

@@ -7,10 +7,7 @@ ghost use Rattle.paper_rules.specs.Keepable.{Keepable};
 
 use crate::saps::{grant_of, is_sap_or_type, is_type};
 use crate::streams::state_number;
-use paper::{
-    ADDRESS_SIZE, BindRequest, Carrier, ConnectRequest, ConnectResponse, Correlation,
-    DisconnectRequest, PpaNumber, Request, Rule, Service, Stream, Verdict,
-};
+use paper::{ADDRESS_SIZE, BindRequest, Carrier, ConnectRequest, ConnectResponse, Correlation, DisconnectRequest, PpaNumber, Request, Rule, Service, Stream};
 
 // 2. No state row. Of a datagram it is a rule of its own.
 #[tactic(auto, unfolding(paper::specs::ErrorOrder::without_row))]
@@ -24,13 +21,13 @@ pub fn without_row(q: Request) -> Rule
 }
 
 // 3. ATTACH: the PPA is known.
-pub fn judge_attach(p: PpaNumber, known: bool) -> Verdict
+pub fn judge_attach(p: PpaNumber, known: bool) -> Result<Service, Rule>
     ensures { result ≡ judge_attach p known }
 {
     if !known {
-        return Verdict::Fails(Rule::UnknownPpa);
+        return Err(Rule::UnknownPpa);
     }
-    Verdict::Serves(Service::Attach(p))
+    Ok(Service::Attach(p))
 }
 
 // Mode 1 is connection, mode 2 connectionless.
@@ -57,96 +54,96 @@ fn listens_too(b: BindRequest, listened: bool) -> bool
 }
 
 // 4. BIND, where the SAP may be bound.
-fn judge_listening(b: BindRequest, listened: bool) -> Verdict
+fn judge_listening(b: BindRequest, listened: bool) -> Result<Service, Rule>
     requires { Keepable b }
     ensures { result ≡ judge_listening b listened }
 {
     if connects_to_type(b) {
-        return Verdict::Fails(Rule::TypeInModeOne);
+        return Err(Rule::TypeInModeOne);
     }
     if listens_too(b, listened) {
-        return Verdict::Fails(Rule::ListenedFor);
+        return Err(Rule::ListenedFor);
     }
     let granted = grant_of(b.mode, b.most);
-    Verdict::Serves(Service::Bind(b.mode as u8, b.sap as u16, granted))
+    Ok(Service::Bind(b.mode as u8, b.sap as u16, granted))
 }
 
 // 4. BIND: the mode, the connection management, the XID and TEST that are asked for, the SAP.
-pub fn judge_bind(b: BindRequest, listened: bool) -> Verdict
+pub fn judge_bind(b: BindRequest, listened: bool) -> Result<Service, Rule>
     ensures { result ≡ judge_bind b listened }
 {
     if !is_mode(b.mode) {
-        return Verdict::Fails(Rule::UnknownMode);
+        return Err(Rule::UnknownMode);
     }
     if b.management != 0 {
-        return Verdict::Fails(Rule::Management);
+        return Err(Rule::Management);
     }
     if b.xidtest != 0 {
-        return Verdict::Fails(Rule::AutomaticXid);
+        return Err(Rule::AutomaticXid);
     }
     if !is_sap_or_type(b.sap) {
-        return Verdict::Fails(Rule::SapNotAllowed);
+        return Err(Rule::SapNotAllowed);
     }
     judge_listening(b, listened)
 }
 
 // 5. CONNECT_REQ: the address lies behind the fixed fields and within L.
-pub fn judge_connect(c: ConnectRequest) -> Verdict
+pub fn judge_connect(c: ConnectRequest) -> Result<Service, Rule>
     ensures { result ≡ judge_connect c }
 {
     if c.qos != 0 {
-        return Verdict::Fails(Rule::ConnectQos);
+        return Err(Rule::ConnectQos);
     }
     if c.length != ADDRESS_SIZE as u32 {
-        return Verdict::Fails(Rule::AddressLength);
+        return Err(Rule::AddressLength);
     }
     let at = c.offset;
     if at < 24 {
-        return Verdict::Fails(Rule::AddressTooEarly);
+        return Err(Rule::AddressTooEarly);
     }
     // the sum does not wrap
     let end = at as u64 + ADDRESS_SIZE as u64;
     if (c.size as u64) < end {
-        return Verdict::Fails(Rule::AddressTooLate);
+        return Err(Rule::AddressTooLate);
     }
     if c.last % 2 == 1 {
-        return Verdict::Fails(Rule::AddressSapOdd);
+        return Err(Rule::AddressSapOdd);
     }
-    Verdict::Serves(Service::Connect(at as u8))
+    Ok(Service::Connect(at as u8))
 }
 
 // 6. CONNECT_RES, where another stream x is to carry the call: one in 6, of the same PPA and in mode 1.
-fn judge_other(s: Stream, n: Correlation, x: Stream) -> Verdict
+fn judge_other(s: Stream, n: Correlation, x: Stream) -> Result<Service, Rule>
     ensures { result ≡ judge_other s n x }
 {
     if state_number(x) != 6 {
-        return Verdict::Fails(Rule::CarrierNotIdle);
+        return Err(Rule::CarrierNotIdle);
     }
     if x.ppa.0 != s.ppa.0 {
-        return Verdict::Fails(Rule::CarrierOfOtherPpa);
+        return Err(Rule::CarrierOfOtherPpa);
     }
     if x.mode == 2 {
-        return Verdict::Fails(Rule::CarrierConnectionless);
+        return Err(Rule::CarrierConnectionless);
     }
-    Verdict::Serves(Service::Accept(n))
+    Ok(Service::Accept(n))
 }
 
 // 6. CONNECT_RES, where this stream is to carry the call: its number is the only one open.
-fn judge_itself(n: Correlation, count: u8) -> Verdict
+fn judge_itself(n: Correlation, count: u8) -> Result<Service, Rule>
     ensures { result ≡ judge_itself n count }
 {
     if 1 < count {
-        return Verdict::Fails(Rule::OthersOpen);
+        return Err(Rule::OthersOpen);
     }
-    Verdict::Serves(Service::Accept(n))
+    Ok(Service::Accept(n))
 }
 
-fn judge_carrier(s: Stream, n: Correlation, count: u8, carrier: Carrier) -> Verdict
+fn judge_carrier(s: Stream, n: Correlation, count: u8, carrier: Carrier) -> Result<Service, Rule>
     ensures { result ≡ judge_carrier s n count carrier }
 {
     match carrier {
         Carrier::Itself => judge_itself(n, count),
-        Carrier::None => Verdict::Fails(Rule::TokenOfNone),
+        Carrier::None => Err(Rule::TokenOfNone),
         Carrier::Other(_, x) => judge_other(s, n, x),
     }
 }
@@ -158,39 +155,39 @@ pub fn judge_accept(
     is_open: bool,
     count: u8,
     carrier: Carrier,
-) -> Verdict
+) -> Result<Service, Rule>
     ensures { result ≡ judge_accept s a is_open count carrier }
 {
     if !is_open {
-        return Verdict::Fails(Rule::AcceptNotOpen);
+        return Err(Rule::AcceptNotOpen);
     }
     if a.qos != 0 {
-        return Verdict::Fails(Rule::AcceptQos);
+        return Err(Rule::AcceptQos);
     }
     let n = a.correlation;
     judge_carrier(s, n, count, carrier)
 }
 
 // 7. DISCONNECT_REQ in state 9 denies an open indication.
-fn judge_denial(d: DisconnectRequest, is_open: bool) -> Verdict
+fn judge_denial(d: DisconnectRequest, is_open: bool) -> Result<Service, Rule>
     ensures { result ≡ judge_denial d is_open }
 {
     if !is_open {
-        return Verdict::Fails(Rule::DenialNotOpen);
+        return Err(Rule::DenialNotOpen);
     }
     let n = d.correlation;
-    Verdict::Serves(Service::Deny(n, d.reason))
+    Ok(Service::Deny(n, d.reason))
 }
 
 // 7. Elsewhere DISCONNECT_REQ has number 0.
-pub fn judge_disconnect(s: Stream, d: DisconnectRequest, is_open: bool) -> Verdict
+pub fn judge_disconnect(s: Stream, d: DisconnectRequest, is_open: bool) -> Result<Service, Rule>
     ensures { result ≡ judge_disconnect s d is_open }
 {
     if state_number(s) == 9 {
         return judge_denial(d, is_open);
     }
     if d.correlation.0 != 0 {
-        return Verdict::Fails(Rule::NumberNotZero);
+        return Err(Rule::NumberNotZero);
     }
-    Verdict::Serves(Service::Disconnect(d.reason))
+    Ok(Service::Disconnect(d.reason))
 }

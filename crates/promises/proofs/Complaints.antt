@@ -1,5 +1,6 @@
 -- How an error comes, of the call for C: a message that breaks a rule is answered by the reply of that rule and by nothing else, and of the
 -- rules those of a datagram alone are answered with UDERROR_IND.
+use Rattle.std.proofs.Common.{Err, None, Ok, Option, Result, Some}
 use Prim.Native.Nat.{ℕ, ◌≤◌}
 use native.Mathlib.Omega.{arith}
 use mathlib.Core.Path.{◌≡◌, refl, sym, ap, subst, ◌∙◌}
@@ -18,10 +19,6 @@ use Rattle.paper.specs.Refusals.{Outcome}
 use Rattle.paper.specs.Replies.{content_of}
 use Rattle.paper.specs.Sight.{request_asks, sight_by}
 use Rattle.paper.specs.StateRows.{state_rows, found}
-use Rattle.paper.specs.declared.Asked.{Asked}
-use Rattle.paper.specs.declared.Asked.TheVariants.{For, Wrong}
-use Rattle.paper.specs.declared.Found.{Found}
-use Rattle.paper.specs.declared.Found.TheVariants.{At, Missing}
 use Rattle.paper.specs.declared.Input.TheVariants as input
 use Rattle.paper.specs.declared.Primitive.{Primitive}
 use Rattle.paper.specs.declared.Primitive.TheVariants as primitive
@@ -29,8 +26,6 @@ use Rattle.paper.specs.declared.Request.{Request}
 use Rattle.paper.specs.declared.Request.TheVariants as request
 use Rattle.paper.specs.declared.Rule.{Rule}
 use Rattle.paper.specs.declared.UnitdataRequest.{UnitdataRequest}
-use Rattle.paper.specs.declared.Verdict.{Verdict}
-use Rattle.paper.specs.declared.Verdict.TheVariants.{Serves, Fails}
 use Rattle.paper.proofs.Fair.{asks, Faulty, unknown_ppa, unknown_mode, managed, automatic, not_allowed, typed, listened_for, connect_qos, not_seven, too_early, too_late, odd}
 use Rattle.paper.proofs.Fair.{not_open, accept_qos, others_open, of_none, not_idle, other_ppa, connectionless, denial_not_open, not_zero}
 use Rattle.paper.proofs.Fair.{other_form, sent_early, sent_late, not_bindable, Judged, fails, serves, judged_fairly}
@@ -42,16 +37,18 @@ use Rattle.promises.specs.History.{Answered}
 use Rattle.promises.proofs.Demand2.{call-passed, call_gets_out_state, errors_of_the_call}
 use Rattle.promises.proofs.Harness.{outcome, sound-call}
 use Rattle.promises.proofs.Verdicts.{errors_by, answer_tells}
+use Rattle.paper.specs.declared.Service.{Service}
+use Rattle.paper.specs.declared.StateRow.{StateRow}
 
 -- rule w is answered as a message that asks this is
-abbrev Fit : Asked → Rule → Type 0
+abbrev Fit : Result Request Rule → Rule → Type 0
 Fit a w = complaint_of w ≡ complaint_to a (error_of w)
 
 -- ---- step 1: another code than a served request's, or L under the size
 
-abbrev WrongFits : Asked → Type 0
-WrongFits (Wrong w) = Fit (Wrong w) w
-WrongFits (For q) = 0 ≤ 0
+abbrev WrongFits : Result Request Rule → Type 0
+WrongFits (Err w) = Fit (Err w) w
+WrongFits (Ok q) = 0 ≤ 0
 
 module _ (m : List ℕ) where
   of_size : (n : ℕ) (q : Request) → WrongFits (sized n m q)
@@ -80,7 +77,7 @@ module _ (m : List ℕ) where
 
 -- ---- step 2: no row
 
-rowless_fits : (q : Request) → Fit (For q) (without_row q)
+rowless_fits : (q : Request) → Fit (Ok q) (without_row q)
 unfolding without_row
 rowless_fits request.Info = refl
 rowless_fits request.Token = refl
@@ -98,7 +95,7 @@ rowless_fits (request.Unitdata u) = refl
 -- ---- the other steps
 
 module _ (t : Table) (i : ℕ) (m : List ℕ) where
-  faulty_fits : {q : Request} {w : Rule} → Faulty t i q w → Fit (For q) w
+  faulty_fits : {q : Request} {w : Rule} → Faulty t i q w → Fit (Ok q) w
   faulty_fits (unknown_ppa h) = refl
   faulty_fits (unknown_mode h) = refl
   faulty_fits (managed h) = refl
@@ -127,21 +124,21 @@ module _ (t : Table) (i : ℕ) (m : List ℕ) where
 
   -- ---- all of them, on message m
 
-  abbrev FailFits : Asked → Verdict → Type 0
-  FailFits a (Serves v) = 0 ≤ 0
-  FailFits a (Fails w) = Fit a w
+  abbrev FailFits : Result Request Rule → Result Service Rule → Type 0
+  FailFits a (Ok v) = 0 ≤ 0
+  FailFits a (Err w) = Fit a w
 
-  judged_fits : {q : Request} {c : ℕ} {v : Verdict} → Judged t i m q c v → FailFits (For q) v
+  judged_fits : {q : Request} {c : ℕ} {v : Result Service Rule} → Judged t i m q c v → FailFits (Ok q) v
   judged_fits (serves f) = omega arith
   judged_fits (fails f) = faulty_fits f
 
-  verdict-fits : (a : Asked) → asked_by m ≡ a → WrongFits a → FailFits a (verdict_on state_rows t i m a)
-  verdict-fits (Wrong w) e h = h
-  verdict-fits (For q) e h = go (found state_rows (stream t i) (request_asks q).cause)
+  verdict-fits : (a : Result Request Rule) → asked_by m ≡ a → WrongFits a → FailFits a (verdict_on state_rows t i m a)
+  verdict-fits (Err w) e h = h
+  verdict-fits (Ok q) e h = go (found state_rows (stream t i) (request_asks q).cause)
     where
-      go : (f : Found) → FailFits (For q) (verdict_by (sight_by t i f (request_asks q).question) (For q) f)
-      go Missing = rowless_fits q
-      go (At x) = judged_fits (judged_fairly t i m x q (asks m e))
+      go : (f : Option StateRow) → FailFits (Ok q) (verdict_by (sight_by t i f (request_asks q).question) (Ok q) f)
+      go None = rowless_fits q
+      go (Some x) = judged_fits (judged_fairly t i m x q (asks m e))
 
   -- what is then written
   bytes_of : (code : ℕ) (x : Complaint) → all_bytes (up i (reply_by code x) [] ∷ []) ≡ complaint_bytes i code x
@@ -149,7 +146,7 @@ module _ (t : Table) (i : ℕ) (m : List ℕ) where
   bytes_of code (error_ack error) = refl
   bytes_of code (uderror_ind error) = refl
 
-  answer-bytes : {r : List ℕ} (a : Asked) {o : Outcome} {error : ℕ} → FailFits a (verdict_on state_rows t i m a) → Replied state_rows t i m r a o
+  answer-bytes : {r : List ℕ} (a : Result Request Rule) {o : Outcome} {error : ℕ} → FailFits a (verdict_on state_rows t i m a) → Replied state_rows t i m r a o
       → errors_by (verdict_on state_rows t i m a) ≡ error ∷ [] → all_bytes o.records ≡ complaint_bytes i (code_in m) (complaint_to a error)
   answer-bytes a {error = error} f (failing {w = w} v) h =
       let k : error_of w ∷ [] ≡ error ∷ [] = ap errors_by (sym v) ∙ h in

@@ -1,6 +1,7 @@
 -- Connectionless traffic (document 02), of the call for C: a datagram and a frame change nothing, since the datagram's row leads to its
 -- own state and a frame's is not followed. What is written is what one walk of the call leaves: u and its M, or for each stream that the
 -- frame comes to, in order, UNITDATA_IND and its M.
+use Rattle.std.proofs.Common.{None, Ok, Some}
 use Prim.Native.Nat.{ℕ, ◌+◌, ◌*◌, ◌≤◌, ◌<◌}
 use native.Mathlib.Omega.{arith}
 use mathlib.Core.Path.{◌≡◌, refl, sym, ap, subst, ◌∙◌}
@@ -30,10 +31,8 @@ use Rattle.paper.specs.Messages.{code_in, asked_by}
 use Rattle.paper.specs.Sight.{request_asks}
 use Rattle.paper.specs.StateRows.{unitdata_req, frame_arrives, seat, stays, state_rows, found, is_found}
 use Rattle.paper.specs.Step.{step}
-use Rattle.paper.specs.declared.Asked.TheVariants.{For}
 use Rattle.paper.specs.declared.Form.{Form}
 use Rattle.paper.specs.declared.Form.TheVariants.{WithSap, WithType}
-use Rattle.paper.specs.declared.Found.TheVariants.{At, Missing}
 use Rattle.paper.specs.declared.Frame.{Frame}
 use Rattle.paper.specs.declared.Input.{Input}
 use Rattle.paper.specs.declared.Input.TheVariants as input
@@ -79,12 +78,12 @@ data Sending (t : Table) (r : List ℕ) : Outcome → Type 0 where
 
 module _ (t : Table) (r : List ℕ) where
   -- the datagram's row leads to its own state
-  row_stays : (s : Stream) {x : StateRow} → found state_rows s unitdata_req ≡ At x → eqb x.to x.from ≡ true
+  row_stays : (s : Stream) {x : StateRow} → found state_rows s unitdata_req ≡ Some x → eqb x.to x.from ≡ true
   row_stays s h = of-asks _ _ (has_all state_rows s unitdata_req h (λ (x : StateRow). asks (eqb x.cause unitdata_req) (eqb x.to x.from)) refl) (eq-eqb _ _ (row-cause state_rows s unitdata_req h))
 
   -- no other request has its code
   served-sends : (i l : ℕ) (x : StateRow) {q : Request} {c : ℕ} {v : Service} → stream_in r ≡ i → has_data r ≡ true → code_in (message_in r l) ≡ unitdata_req
-      → asked_by (message_in r l) ≡ For q → found state_rows (stream t i) (request_asks q).cause ≡ At x → (request_asks q).cause ≡ unitdata_req
+      → asked_by (message_in r l) ≡ Ok q → found state_rows (stream t i) (request_asks q).cause ≡ Some x → (request_asks q).cause ≡ unitdata_req
       → Fair t i (message_in r l) q c v → Sending t r (done t i c r (effect_of x (token_of i) (stream t i) v))
   unfolding enacted changed carried told orders_in ups_in in_order effect_of
   served-sends i l x s d k a h z informs = absurd (omega (arith, z))
@@ -239,7 +238,7 @@ frame_row s = go (eqb 6 (number s)) (eqb 2 s.mode) ∙ ap (λ (b : Bool). both b
     eqb_swap : (m n : ℕ) → eqb m n ≡ eqb n m
     eqb_swap m n = same_test (eqb m n) (eqb n m) (λ e. eq-eqb n m (sym (eqb-true m n e))) (λ e. eq-eqb m n (sym (eqb-true n m e)))
 
-    go : (a b : Bool) → is_found (pick (both a b) (At (stays frame_arrives (seat 6 2))) Missing) ≡ both a b
+    go : (a b : Bool) → is_found (pick (both a b) (Some (stays frame_arrives (seat 6 2))) None) ≡ both a b
     go true true = refl
     go true false = refl
     go false b = refl

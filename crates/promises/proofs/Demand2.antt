@@ -1,5 +1,6 @@
 -- Demand 2's two sentences on answers, of the call for C: on a sound image the errors that the bytes written tell are those of the
 -- records of `step`, and on any other nothing is written.
+use Rattle.std.proofs.Common.{Err, Ok, Result}
 use Prim.Native.Nat.{ℕ, ◌≤◌, ◌<◌}
 use mathlib.Core.Path.{◌≡◌, refl, sym, ap, subst, ◌∙◌}
 use mathlib.Core.Bool.{Bool, true, false, not}
@@ -17,14 +18,11 @@ use Rattle.paper.specs.Sound.{sound}
 use Rattle.paper.specs.StateRows.{state_rows}
 use Rattle.paper.specs.Step.{serve_by, step}
 use Rattle.paper.specs.Room.{room_size, room_for}
-use Rattle.paper.specs.declared.Asked.{Asked}
-use Rattle.paper.specs.declared.Asked.TheVariants.{For}
 use Rattle.paper.specs.declared.Input.{Input}
 use Rattle.paper.specs.declared.Input.TheVariants as input
 use Rattle.paper.specs.declared.Request.{Request}
 use Rattle.paper.specs.declared.Rule.{Rule}
 use Rattle.paper.specs.declared.Service.{Service}
-use Rattle.paper.specs.declared.Verdict.TheVariants.{Serves, Fails}
 use Rattle.paper.proofs.Walk.{Replied, Sent, Way, refusing, answering, bringing, walk, step_by_lem}
 use Rattle.paper.proofs.Effects.{errors_in}
 use Rattle.table_image.specs.Layout.{table_of, sound_image}
@@ -60,7 +58,7 @@ module _ (t : Table) (r : List ℕ) (room i l n : ℕ) where
   served-passed b {o} (answering s e a) z = record {
     sent = s;
     roomy = b;
-    answer = subst (λ (w : Asked). Replied state_rows t i (message_in r l) r w o) (sym e) a;
+    answer = subst (λ (w : Result Request Rule). Replied state_rows t i (message_in r l) r w o) (sym e) a;
   }
   served-passed b (bringing {e = e} y _ _) z = elim y [ ]
 
@@ -76,7 +74,7 @@ call-passed img c i l n s e z =
 
 -- A message of a code that we serve, of its full size, is complete where it is not refused.
 pub complete_by : (img : List ℕ) (c : Lending) (i l n : ℕ) (q : Request) → sound_image img ≡ true → input_of c.bytes ≡ input.Message i l n
-    → asked_by (message_in c.bytes l) ≡ For q
+    → asked_by (message_in c.bytes l) ≡ Ok q
     → (came_back c (left_on img c)).refusal ≡ 0 → Complete (table_of img) c.bytes (length c.room) i q
 complete_by img c i l n q s e a z =
     let p : Passed (table_of img) c.bytes (length c.room) i l n (outcome (table_of img) c) = call-passed img c i l n s e z in
@@ -90,12 +88,12 @@ message_tells img c i l n s e z = errors_of_the_call img c s ∙ answer_tells st
 
 -- A message that is not refused tells the error of the first rule that applies, in the paper's order, and nothing else;
 pub rule_tells : (img : List ℕ) (c : Lending) (i l n : ℕ) (a : Rule) → sound_image img ≡ true → input_of c.bytes ≡ input.Message i l n → (came_back c (left_on img c)).refusal ≡ 0
-    → verdict_of state_rows (table_of img) i (message_in c.bytes l) ≡ Fails a → errors_told (came_back c (left_on img c)).written ≡ error_of a ∷ []
+    → verdict_of state_rows (table_of img) i (message_in c.bytes l) ≡ Err a → errors_told (came_back c (left_on img c)).written ≡ error_of a ∷ []
 rule_tells img c i l n a s e z v = message_tells img c i l n s e z ∙ ap errors_by v
 
 -- where none applies it tells none.
 pub row_tells_none : (img : List ℕ) (c : Lending) (i l n : ℕ) (a : Service) → sound_image img ≡ true → input_of c.bytes ≡ input.Message i l n → (came_back c (left_on img c)).refusal ≡ 0
-    → verdict_of state_rows (table_of img) i (message_in c.bytes l) ≡ Serves a → errors_told (came_back c (left_on img c)).written ≡ []
+    → verdict_of state_rows (table_of img) i (message_in c.bytes l) ≡ Ok a → errors_told (came_back c (left_on img c)).written ≡ []
 row_tells_none img c i l n a s e z v = message_tells img c i l n s e z ∙ ap errors_by v
 
 -- "A complete message that we serve gets DL_OUTSTATE exactly if the paper's state table has no row for it, or if an

@@ -1,5 +1,6 @@
 -- Demand 3, sentence by sentence. "Start from a fresh table and make calls in any sequence, refused ones included": `x` is any
 -- harness, `heard_in x` what came back of its calls, `image_in x` the image that it then holds and `table_in x` the table in that.
+use Rattle.std.proofs.Common.{Ok}
 use Prim.Native.Nat.{ℕ, suc, ◌+◌, ◌≤◌, ◌<◌}
 use mathlib.Core.Path.{◌≡◌, refl, sym, ap, ◌∙◌}
 use mathlib.Core.Bool.{Bool, true, false, not}
@@ -10,7 +11,6 @@ use borrow.Author.Tests.{eqb-true, ne_eqb, not-true, lt-ltb}
 use Rattle.ledger.proofs.Tallies.{empty, to_both, has_some}
 use Rattle.paper.specs.StateRows.{state_rows}
 use Rattle.paper.specs.Step.{step}
-use Rattle.paper.specs.declared.Asked.TheVariants.{For}
 use Rattle.paper.specs.ErrorOrder.{verdict_on}
 use Rattle.fates_book.specs.Book.{Opening, open_count, tallies, count_in, open_of, newest, posts, count_of, how_many}
 use Rattle.paper.proofs.Fair.{asks}
@@ -128,7 +128,7 @@ none_outside_nine x s e = (agreed x s).now ∙ empty (waiting (table_in x) s) (q
 
 -- The errors told are those of the order of errors.
 errors_told_lem : (x : Harness) (c : Lending) (s : ℕ) (q : Request) → (m : CompleteIn x c s q)
-    → errors_heard x c ≡ errors_by (verdict_on state_rows (table_in x) s (message_in c.bytes m.size) (For q))
+    → errors_heard x c ≡ errors_by (verdict_on state_rows (table_in x) s (message_in c.bytes m.size) (Ok q))
 errors_told_lem x c s q m = errors_heard_lem x c ∙ complete_tells state_rows (table_in x) (stays-sound x) c.bytes (length c.room) s q m
 
 -- "The open ones are exactly those that an accept or a denial may name": while some are open, any other number gets BADCORR,

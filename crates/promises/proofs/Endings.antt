@@ -1,5 +1,6 @@
 -- Which fate is which: a served accept says 'accepted' of its number and nothing else, a denial 'denied', a W 'withdrawn', a close
 -- 'dropped' of each open one. Each follows from the records that its row writes.
+use Rattle.std.proofs.Common.{Ok}
 use Prim.Native.Nat.{ℕ, ◌+◌, ◌*◌, ◌<◌}
 use mathlib.Core.Path.{◌≡◌, refl, sym, ap, subst, ◌∙◌}
 use mathlib.Core.Bool.{Bool, true, false, not}
@@ -21,7 +22,6 @@ use Rattle.paper.specs.RecordsOut.{Record, in_order}
 use Rattle.paper.specs.Refusals.{Outcome, refused}
 use Rattle.paper.specs.Saps.{listener}
 use Rattle.paper.specs.StateRows.{state_rows}
-use Rattle.paper.specs.declared.Asked.TheVariants.{For}
 use Rattle.paper.specs.declared.Correlation.{Correlation}
 use Rattle.paper.specs.declared.ConnectResponse.{ConnectResponse}
 use Rattle.paper.specs.declared.DisconnectRequest.{DisconnectRequest}
@@ -62,13 +62,13 @@ abbrev pub AnswerTells : ℕ → ℕ → ℕ → List Line → Outcome → Type 
 AnswerTells i l n ys o = errors_in o.records ≡ [] → telling (said (input.Message i l n) o.opened o.records) ≡ ys
 
 module _ (t : Table) (i l n : ℕ) (m r : List ℕ) where
-  tells_accept : {a : ConnectResponse} {o : Outcome} → Replied state_rows t i m r (For (request.ConnectRes a)) o → AnswerTells i l n (Went i a.correlation.0 Accepted ∷ []) o
+  tells_accept : {a : ConnectResponse} {o : Outcome} → Replied state_rows t i m r (Ok (request.ConnectRes a)) o → AnswerTells i l n (Went i a.correlation.0 Accepted ∷ []) o
   unfolding told in_order orders_in ups_in effect_of
   tells_accept (failing {w = w} v) e = erring_tells t i (code_in m) w e
   tells_accept (serving v h (accepts_here w k)) e = refl
   tells_accept (serving v h (accepts_on w k)) e = refl
 
-  tells_denial : {d : DisconnectRequest} {o : Outcome} → 0 < d.correlation.0 → Replied state_rows t i m r (For (request.Disconnect d)) o
+  tells_denial : {d : DisconnectRequest} {o : Outcome} → 0 < d.correlation.0 → Replied state_rows t i m r (Ok (request.Disconnect d)) o
       → AnswerTells i l n (Went i d.correlation.0 Denied ∷ []) o
   unfolding told in_order orders_in ups_in effect_of
   tells_denial some (failing {w = w} v) e = erring_tells t i (code_in m) w e
@@ -76,7 +76,7 @@ module _ (t : Table) (i l n : ℕ) (m r : List ℕ) where
   tells_denial some (serving v h (disconnects n z)) e = absurd (omega (arith, some, z))
 
 pub heard_answered : (x : Harness) (c : Lending) (s : ℕ) (q : Request) (m : CompleteIn x c s q)
-    → Replied state_rows (table_in x) s (message_in c.bytes m.size) c.bytes (For q) (outcome (table_in x) c)
+    → Replied state_rows (table_in x) s (message_in c.bytes m.size) c.bytes (Ok q) (outcome (table_in x) c)
 heard_answered x c = complete_answered state_rows (table_in x) (sound_test (table_in x) (agreed x 0).sound) c.bytes (length c.room)
 
 -- what a complete message says where no error is told

@@ -1,4 +1,5 @@
 -- The count granted begins at 0 with each opening, and each bind that is served sets it: a bind's one line is its BIND_ACK's.
+use Rattle.std.proofs.Common.{Ok}
 use Prim.Native.Nat.{ℕ}
 use mathlib.Core.Path.{◌≡◌, refl, sym, ap, ◌∙◌}
 use mathlib.Core.Bool.{true}
@@ -11,7 +12,6 @@ use Rattle.paper.specs.RecordsOut.{in_order}
 use Rattle.paper.specs.Refusals.{Outcome}
 use Rattle.paper.specs.Saps.{grant_of}
 use Rattle.paper.specs.StateRows.{state_rows}
-use Rattle.paper.specs.declared.Asked.TheVariants.{For}
 use Rattle.paper.specs.declared.BindRequest.{BindRequest}
 use Rattle.paper.specs.declared.Request.TheVariants as request
 use Rattle.paper.proofs.Fair.{binds}
@@ -32,7 +32,7 @@ use Rattle.promises.proofs.Verdicts.{erring_tells}
 pub opening_grants_none : (x : Harness) (c : Lending) (s : ℕ) → opens_stream s (next_in x c) ≡ true → granted_by s (heard_in (and_then x c)) ≡ 0
 opening_grants_none x c s h = grant_more x c s ∙ ap (λ (ys : List Line). grant_by s ys (granted_by s (heard_in x))) (opening_says x c s h) ∙ rw (eq-eqb s s refl)
 
-tells_bind : (t : Table) (i l n : ℕ) (m r : List ℕ) {b : BindRequest} {o : Outcome} → Replied state_rows t i m r (For (request.Bind b)) o
+tells_bind : (t : Table) (i l n : ℕ) (m r : List ℕ) {b : BindRequest} {o : Outcome} → Replied state_rows t i m r (Ok (request.Bind b)) o
     → AnswerTells i l n (Given i (grant_of b.mode b.most) ∷ []) o
 unfolding told in_order orders_in ups_in effect_of
 tells_bind t i l n m r (failing {w = w} v) e = erring_tells t i (code_in m) w e

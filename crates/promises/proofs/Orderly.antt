@@ -1,6 +1,7 @@
 -- Every call is orderly, by every list of rows: a refusal is all there is, an error changes nothing, the room that it needs is enough,
 -- each record written has its size and names and says what it may, and only O and X change which streams are open. What comes to a
 -- stream is enacted as an effect, and each of these holds of any effect: so one walk of the ways of a call shows them all.
+use Rattle.std.proofs.Common.{Ok}
 use Prim.Native.Nat.{ℕ, suc, ◌+◌, ◌<◌, ◌≤◌}
 use native.Mathlib.Omega.{arith}
 use mathlib.Core.Path.{◌≡◌, refl, sym, ap, subst, ◌∙◌}
@@ -32,7 +33,6 @@ use Rattle.paper.specs.Step.{step_by}
 use Rattle.paper.specs.Sight.{request_asks}
 use Rattle.paper.specs.StateRows.{unitdata_req, call_arrives, peer_accepted, peer_gone, call_withdrawn, peer_reset, reset_confirmed}
 use Rattle.paper.specs.Room.{room_size, room_for, Fits}
-use Rattle.paper.specs.declared.Asked.TheVariants.{For}
 use Rattle.paper.specs.declared.Change.{Change}
 use Rattle.paper.specs.declared.Change.TheVariants.{Stays, Becomes, Takes, Loses}
 use Rattle.paper.specs.declared.Effect.{Effect}
@@ -308,7 +308,7 @@ module _ (t : Table) (r : List ℕ) where
 
 module _ (rows : List StateRow) (t : Table) (r : List ℕ) where
   -- (a message of code 0x07 was read with its M)
-  with_data : {i l n : ℕ} {q : Request} → input_of r ≡ input.Message i l n → Sent t i l n → asked_by (message_in r l) ≡ For q → (request_asks q).cause ≡ unitdata_req → pair_size ≤ length r
+  with_data : {i l n : ℕ} {q : Request} → input_of r ≡ input.Message i l n → Sent t i l n → asked_by (message_in r l) ≡ Ok q → (request_asks q).cause ≡ unitdata_req → pair_size ≤ length r
   with_data {l = l} e s a z = paired_long r e (record { coded = s.coded; whole = s.whole; asks = (asks (message_in r l) a).coded ∙ z })
 
   on-each_way : {q : Input} {o : Outcome} → Way rows t r q o → input_of r ≡ q → Letter r q → least_size q ≤ length r → Orderly t r q o

@@ -1,6 +1,7 @@
 -- Demand 2: "A complete message that we serve gets DL_OUTSTATE exactly if the paper's state table has no row for it, or if an accept, with
 -- no earlier error in the paper's order, offers another stream that isn't idle." Of the rules only these have that error: no row, of a
 -- datagram or of any other message, and a carrier that isn't idle.
+use Rattle.std.proofs.Common.{None, Ok, Option, Result, Some}
 use Prim.Native.Nat.{ℕ}
 use mathlib.Core.Path.{◌≡◌, refl, sym, ap, ◌∙◌}
 use mathlib.Core.Bool.{true, false, not}
@@ -16,17 +17,13 @@ use Rattle.paper.specs.Sight.{request_asks, sight_by}
 use Rattle.paper.specs.Sound.{sound}
 use Rattle.paper.specs.StateRows.{state_rows, found, is_found}
 use Rattle.paper.specs.Step.{step}
-use Rattle.paper.specs.declared.Asked.TheVariants.{For}
 use Rattle.paper.specs.declared.Carrier.{Carrier}
 use Rattle.paper.specs.declared.ConnectResponse.{ConnectResponse}
-use Rattle.paper.specs.declared.Found.{Found}
-use Rattle.paper.specs.declared.Found.TheVariants.{At, Missing}
 use Rattle.paper.specs.declared.Request.{Request}
 use Rattle.paper.specs.declared.Request.TheVariants as request
 use Rattle.paper.specs.declared.Rule.{Rule}
 use Rattle.paper.specs.declared.Service.{Service}
 use Rattle.paper.specs.declared.StateRow.{StateRow}
-use Rattle.paper.specs.declared.Verdict.{Verdict}
 use Rattle.paper.proofs.Fair.{Asks, asks, Fair, informs, tells_token, attaches, detaches, binds, unbinds, connects, accepts_here, accepts_on, denies, disconnects, resets}
 use Rattle.paper.proofs.Fair.{answers_reset, sends_data, Offers, Faulty, unknown_ppa, unknown_mode, managed, automatic, not_allowed, typed, listened_for, connect_qos, not_seven, too_early, too_late, odd}
 use Rattle.paper.proofs.Fair.{not_open, accept_qos, others_open, of_none, not_idle, other_ppa, connectionless, denial_not_open, not_zero}
@@ -102,18 +99,18 @@ module _ (t : Table) (i : ℕ) (m : List ℕ) where
   rule_says (sent_late h) = refl
   rule_says (not_bindable h) = refl
 
-  judged_says : {q : Request} {c : ℕ} {v : Verdict} → Judged t i m q c v → has out_state (errors_by v) ≡ offers_busy t i q
+  judged_says : {q : Request} {c : ℕ} {v : Result Service Rule} → Judged t i m q c v → has out_state (errors_by v) ≡ offers_busy t i q
   judged_says (serves f) = served_says f
   judged_says (fails f) = rule_says f
 
   -- of all requests, such an accept and those with no row: the sentence, of the order of errors alone
   out_state-exactly : (rows : List StateRow) (q : Request) → Asks m q
-      → has out_state (errors_by (verdict_on rows t i m (For q))) ≡ either (not (has_row rows (stream t i) q)) (offers_busy t i q)
+      → has out_state (errors_by (verdict_on rows t i m (Ok q))) ≡ either (not (has_row rows (stream t i) q)) (offers_busy t i q)
   out_state-exactly rows q a = go (found rows (stream t i) (request_asks q).cause)
     where
-      go : (f : Found) → has out_state (errors_by (verdict_by (sight_by t i f (request_asks q).question) (For q) f)) ≡ either (not (is_found f)) (offers_busy t i q)
-      go Missing = ap (λ (n : ℕ). has out_state (n ∷ [])) (rowless q)
-      go (At x) = judged_says (judged_fairly t i m x q a)
+      go : (f : Option StateRow) → has out_state (errors_by (verdict_by (sight_by t i f (request_asks q).question) (Ok q) f)) ≡ either (not (is_found f)) (offers_busy t i q)
+      go None = ap (λ (n : ℕ). has out_state (n ∷ [])) (rowless q)
+      go (Some x) = judged_says (judged_fairly t i m x q a)
 
 -- ---- of a call
 

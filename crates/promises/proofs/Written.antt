@@ -1,5 +1,6 @@
 -- What the records of a call may name and say: of what an effect writes it is said of each of the three, an order, F and a message
 -- up, once; and of what a frame is shown by, stream after stream.
+use Rattle.std.proofs.Common.{None, Option, Some}
 use Prim.Native.Nat.{ℕ, ◌≤◌}
 use native.Mathlib.Omega.{arith}
 use mathlib.Core.Path.{◌≡◌, refl}
@@ -20,8 +21,6 @@ use Rattle.paper.specs.declared.Frame.{Frame}
 use Rattle.paper.specs.declared.Input.{Input}
 use Rattle.paper.specs.declared.Kind.TheVariants as kind
 use Rattle.paper.specs.declared.LineOrder.TheVariants as line_order
-use Rattle.paper.specs.declared.Saying.{Saying}
-use Rattle.paper.specs.declared.Saying.TheVariants.{Unsaid, Says}
 use Rattle.paper.proofs.Effects.{fits_block}
 use Rattle.paper.proofs.Frames.{addresses_most, frame_data}
 use Rattle.fates_book.specs.Lines.{asker, may_be_said}
@@ -30,13 +29,14 @@ use Rattle.fates_book.specs.declared.Line.{Line}
 use Rattle.fates_book.specs.declared.Line.TheVariants.{Went, Nothing}
 use Rattle.fates_book.proofs.Said.{reply_line, line_of}
 use Rattle.fates_book.proofs.ReadBack.{Sized, AllSized}
+use Rattle.paper.specs.declared.Reply.{Reply}
 
 -- ---- which indication an order may name, and which line a record may say
 
 -- the line of a message up
-abbrev pub line_up : ℕ → Saying → Line
-line_up i Unsaid = Nothing
-line_up i (Says a) = reply_line i a
+abbrev pub line_up : ℕ → Option Reply → Line
+line_up i None = Nothing
+line_up i (Some a) = reply_line i a
 
 -- of an end with number 0 nothing is said
 pub may_end : (r : List ℕ) (i n : ℕ) (e : End) → may_be_said r (Went i n e) ≡ true → may_be_said r (pick (eqb n 0) Nothing (Went i n e)) ≡ true
@@ -80,10 +80,10 @@ module _ (t : Table) (r : List ℕ) (q : Input) where
     right_flush true = (record { sized = omega arith; opened = omega arith; may = refl }, omega arith)
     right_flush false = omega arith
 
-    right_ups : (u : Saying) → may_be_said r (line_up i u) ≡ true → AllRight (ups_in i mac m u)
+    right_ups : (u : Option Reply) → may_be_said r (line_up i u) ≡ true → AllRight (ups_in i mac m u)
     unfolding ups_in
-    right_ups Unsaid h = omega arith
-    right_ups (Says a) h = (record { sized = fits_block i c own mac m six a; opened = omega arith; may = h }, omega arith)
+    right_ups None h = omega arith
+    right_ups (Some a) h = (record { sized = fits_block i c own mac m six a; opened = omega arith; may = h }, omega arith)
 
     -- So is all that an effect writes, where its order is, and its message up says what it may.
     pub told_right : (e : Effect) → AllRight (orders_in i c own m e.order) → may_be_said r (line_up i e.up) ≡ true → AllRight (told i c own mac m e)

@@ -1,6 +1,6 @@
 -- Demand 2's two sentences on answers, in the paper's words: the errors that a call tells and how they come, a complete message
 -- that we serve, the rule that answers it, a row of the state table, an accept that offers a stream that isn't idle.
-use Rattle.std.specs.Prelude.{ℕ, ◌+◌, ◌≤◌, ◌≡◌, Bool, true, false, not, List, [], ◌∷◌, ◌++◌, length, get_or, eqb}
+use Rattle.std.specs.Prelude.{ℕ, ◌+◌, ◌≤◌, ◌≡◌, Bool, true, false, not, List, [], ◌∷◌, ◌++◌, length, get_or, eqb, Err, Ok, Result}
 use Rattle.ledger.specs.Choice.{pick, both, ◌⇒◌∣◌}
 use Rattle.ledger.specs.Tally.{has}
 use Rattle.ledger.specs.Lists.{joined}
@@ -15,16 +15,15 @@ use Rattle.paper.specs.ErrorCodes.{Complaint, error_ack, uderror_ind}
 use Rattle.paper.specs.ErrorOrder.{verdict_on}
 use Rattle.fates_book.specs.Lines.{records_in}
 use Rattle.paper.specs.declared.Input.TheVariants as input
-use Rattle.paper.specs.declared.Asked.{Asked}
-use Rattle.paper.specs.declared.Asked.TheVariants.{For, Wrong}
 use Rattle.paper.specs.declared.Request.{Request}
 use Rattle.paper.specs.declared.Request.TheVariants as request
 use Rattle.paper.specs.declared.Stream.{Stream}
 use Rattle.paper.specs.declared.StateRow.{StateRow}
-use Rattle.paper.specs.declared.Verdict.{Verdict}
 use Rattle.paper.specs.declared.Carrier.{Carrier}
-use Rattle.paper.specs.declared.Carrier.TheVariants.{Itself, Other, None}
+use Rattle.paper.specs.declared.Carrier.TheVariants as carrier
 use Rattle.paper.specs.Room.{room_size}
+use Rattle.paper.specs.declared.Rule.{Rule}
+use Rattle.paper.specs.declared.Service.{Service}
 
 -- ---- answered with DL_ERROR_ACK, or a datagram with DL_UDERROR_IND
 
@@ -54,9 +53,9 @@ is_datagram request.Reset = false
 is_datagram request.ResetRes = false
 is_datagram (request.Unitdata u) = true
 
-abbrev pub complaint_to : Asked → ℕ → Complaint
-complaint_to (Wrong w) error = error_ack error
-complaint_to (For q) error = pick (is_datagram q) (uderror_ind error) (error_ack error)
+abbrev pub complaint_to : Result Request Rule → ℕ → Complaint
+complaint_to (Err w) error = error_ack error
+complaint_to (Ok q) error = pick (is_datagram q) (uderror_ind error) (error_ack error)
 
 -- All that is then written, to stream i and a message of this code: a C with ERROR_ACK, the code, the error and 0; a P with UDERROR_IND, no
 -- address, 0 and the error.
@@ -77,12 +76,12 @@ pub record Complete (t : Table) (r : List ℕ) (room i : ℕ) (q : Request) : Ty
   pub whole : size ≤ block_size
   pub few : data_length ≤ most_data
   pub roomy : room_size ≤ room
-  pub asks : asked_by (message_in r size) ≡ For q
+  pub asks : asked_by (message_in r size) ≡ Ok q
 
 -- ---- the rule that answers it
 
 -- the order of errors on a message m to stream i, by what it sees
-abbrev pub verdict_of : List StateRow → Table → ℕ → List ℕ → Verdict
+abbrev pub verdict_of : List StateRow → Table → ℕ → List ℕ → Result Service Rule
 verdict_of rows t i m = verdict_on rows t i m (asked_by m)
 
 -- a row of the state table for a request of a stream that stands as s
@@ -93,9 +92,9 @@ has_row rows s q = is_found (found rows s (request_asks q).cause)
 
 -- another stream, not in state 6
 abbrev pub is_busy : Carrier → Bool
-is_busy Itself = false
-is_busy None = false
-is_busy (Other c x) = not (is_in 6 x)
+is_busy carrier.Itself = false
+is_busy carrier.None = false
+is_busy (carrier.Other c x) = not (is_in 6 x)
 
 -- With no earlier error in the paper's order: the number is open here (else BADCORR), the QOS length is 0 (else
 -- BADQOSTYPE), and the token is that of an open stream (else BADTOKEN).

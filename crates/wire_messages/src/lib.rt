@@ -9,10 +9,7 @@ ghost use Rattle.paper.specs.Messages.{code_in, other_code, primitive_of, sized,
 ghost use Rattle.paper.specs.declared.Primitive.TheVariants as primitive;
 ghost use Rattle.wire_messages.specs.Whole.{Whole};
 
-use paper::{
-    ADDRESS_SIZE, Asked, BindRequest, ConnectRequest, ConnectResponse, Correlation,
-    DisconnectRequest, Form, MAC_SIZE, PpaNumber, Primitive, Request, Rule, Token, UnitdataRequest,
-};
+use paper::{ADDRESS_SIZE, BindRequest, ConnectRequest, ConnectResponse, Correlation, DisconnectRequest, Form, MAC_SIZE, PpaNumber, Primitive, Request, Rule, Token, UnitdataRequest};
 
 pub fn code_in(m: &[u8]) -> u32
     requires { 4 ≤ length m.now }
@@ -59,23 +56,23 @@ fn primitive_of(code: u32) -> Primitive
 }
 
 // A message under its size asks for nothing.
-fn of_size(size: usize, m: &[u8], q: Request) -> Asked
+fn of_size(size: usize, m: &[u8], q: Request) -> Result<Request, Rule>
     ensures { result ≡ sized size m.now q }
 {
     if m.len() < size {
-        return Asked::Wrong(Rule::TooShort);
+        return Err(Rule::TooShort);
     }
-    Asked::For(q)
+    Ok(q)
 }
 
-fn attach_in(m: &[u8]) -> Asked
+fn attach_in(m: &[u8]) -> Result<Request, Rule>
     ensures { result ≡ read_as primitive.Attach m.now }
 {
     let ppa = PpaNumber(octets::number32_at(m, 4));
     of_size(8, m, Request::Attach(ppa))
 }
 
-fn bind_in(m: &[u8]) -> Asked
+fn bind_in(m: &[u8]) -> Result<Request, Rule>
     ensures { result ≡ read_as primitive.Bind m.now }
 {
     let asked = BindRequest {
@@ -89,7 +86,7 @@ fn bind_in(m: &[u8]) -> Asked
 }
 
 // The offset is the user's word: the address may end past the message, where its last byte reads as 0.
-fn connect_in(m: &[u8]) -> Asked
+fn connect_in(m: &[u8]) -> Result<Request, Rule>
     requires { length m.now ≤ block_size }
     ensures { result ≡ read_as primitive.Connect m.now }
 {
@@ -104,7 +101,7 @@ fn connect_in(m: &[u8]) -> Asked
     of_size(24, m, Request::Connect(asked))
 }
 
-fn connect_res_in(m: &[u8]) -> Asked
+fn connect_res_in(m: &[u8]) -> Result<Request, Rule>
     ensures { result ≡ read_as primitive.ConnectRes m.now }
 {
     let answer = ConnectResponse {
@@ -115,7 +112,7 @@ fn connect_res_in(m: &[u8]) -> Asked
     of_size(24, m, Request::ConnectRes(answer))
 }
 
-fn disconnect_in(m: &[u8]) -> Asked
+fn disconnect_in(m: &[u8]) -> Result<Request, Rule>
     ensures { result ≡ read_as primitive.Disconnect m.now }
 {
     let asked = DisconnectRequest {
@@ -126,7 +123,7 @@ fn disconnect_in(m: &[u8]) -> Asked
 }
 
 // The SAP or type is read in the form that the address length has. As in a connect, a byte past the message reads as 0.
-fn unitdata_in(m: &[u8]) -> Asked
+fn unitdata_in(m: &[u8]) -> Result<Request, Rule>
     requires { length m.now ≤ block_size }
     ensures { result ≡ read_as primitive.Unitdata m.now }
 {
@@ -142,7 +139,7 @@ fn unitdata_in(m: &[u8]) -> Asked
 }
 
 // Step 1 of the order of errors: what a message of at least four bytes asks for.
-pub fn asked_by(m: &[u8]) -> Asked
+pub fn asked_by(m: &[u8]) -> Result<Request, Rule>
     requires { Whole m.now }
     ensures { result ≡ asked_by m.now }
 {
@@ -159,8 +156,8 @@ pub fn asked_by(m: &[u8]) -> Asked
         Primitive::Reset => of_size(4, m, Request::Reset),
         Primitive::ResetRes => of_size(4, m, Request::ResetRes),
         Primitive::Unitdata => unitdata_in(m),
-        Primitive::NotSupported => Asked::Wrong(Rule::NotSupported),
-        Primitive::NotServed => Asked::Wrong(Rule::NotServed),
+        Primitive::NotSupported => Err(Rule::NotSupported),
+        Primitive::NotServed => Err(Rule::NotServed),
     }
 }
 

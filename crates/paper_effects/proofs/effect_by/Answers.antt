@@ -2,10 +2,10 @@
 use Rattle.paper.specs.Decide.{effect_by}
 use Rattle.paper_effects.proofs.effect_by.Goals as goal
 
-pub returns-in-Fails : goal.returns-in-Fails
+pub returns-in-Err : goal.returns-in-Err
 unfolding effect_by
-returns-in-Fails c = rw (c.in-Fails.is, c.error_effect.ensures)
+returns-in-Err c = rw (c.in-Err.is, c.error_effect.ensures)
 
-pub returns-in-Serves : goal.returns-in-Serves
+pub returns-in-Ok : goal.returns-in-Ok
 unfolding effect_by
-returns-in-Serves c = rw (c.in-Serves.is, c.effect_of.ensures)
+returns-in-Ok c = rw (c.in-Ok.is, c.effect_of.ensures)

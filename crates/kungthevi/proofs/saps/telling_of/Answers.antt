@@ -2,10 +2,10 @@
 use Rattle.paper.specs.Exclusions.{telling_of}
 use Rattle.kungthevi.proofs.saps.telling_of.Goals as goal
 
-pub returns-in-By : goal.returns-in-By
+pub returns-in-Some : goal.returns-in-Some
 unfolding telling_of
-returns-in-By c = rw (c.in-By.is, c.ground_number.ensures, c.place_number.ensures)
+returns-in-Some c = rw (c.in-Some.is, c.ground_number.ensures, c.place_number.ensures)
 
-pub returns-in-Not : goal.returns-in-Not
+pub returns-in-None : goal.returns-in-None
 unfolding telling_of
-returns-in-Not c = rw c.in-Not.is c.sap_length.ensures
+returns-in-None c = rw c.in-None.is c.sap_length.ensures
