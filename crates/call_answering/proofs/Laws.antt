@@ -31,7 +31,7 @@ use Rattle.paper.specs.declared.Effect.{Effect}
 use Rattle.paper.proofs.Effects.{service_fits, error_fits}
 use Rattle.call_outcomes.specs.Takes.{takes}
 use Rattle.call_outcomes.specs.Deciding.{outcome_of, Placed}
-use Rattle.call_outcomes.specs.declared.Decided.TheVariants.{Does}
+use Rattle.call_outcomes.specs.Deciding as deciding
 use Rattle.call_answering.specs.Judging.{RightlyJudged}
 use Rattle.call_answering.specs.declared.Judgement.{Judgement}
 use Rattle.paper.specs.declared.Service.{Service}
@@ -39,7 +39,7 @@ use Rattle.paper.specs.declared.Service.{Service}
 module _ (t : Table) (i : ℕ) (came : List ℕ) (code : ℕ) where
   -- an effect, where stream c carries
   abbrev doing : ℕ → Effect → Outcome
-  doing c e = outcome_of t came (Does i c e)
+  doing c e = outcome_of t came (Ok (deciding.doing i c e))
 
   -- an error is the same whoever would carry
   error_enacted : (f : Option StateRow) (w : Question) (r : Rule) → doing i (error_effect code r) ≡ conclude t i came (sight_by t i f w) (does (error_effect code r))

@@ -12,7 +12,7 @@ ghost use Rattle.call_outcomes.specs.Deciding.{Rightly};
 ghost use Rattle.call_answering.specs.Judging.{RightlyJudged, Sent};
 ghost use Rattle.table_image.specs.Lent.{LentAt, Loaded};
 
-use call_outcomes::Decided;
+use call_outcomes::Deed;
 use paper::{Carrier, ConnectResponse, DisconnectRequest, Request, Rule, Service, StateRow, Stream, Token};
 
 // ---- steps 3 to 7 of the order of errors, of stream i, which stands as s
@@ -106,37 +106,37 @@ fn judged_request(img: &[u8], i: u8, s: Stream, q: Request) -> Judgement
 
 // Step 2 of the order of errors, then the others; a request that they let pass is served by its state row. (Which record it
 // came with is not asked.)
-fn answer_request(img: &[u8], i: u8, code: u32, q: Request) -> Decided
+fn answer_request(img: &[u8], i: u8, code: u32, q: Request) -> Deed
     requires { LentAt i img.now }
-    ensures { (r : List ℕ) → Rightly (table_of img.now) r result (comes state_rows (table_of img.now) i r (sends code (Ok q))) }
+    ensures { (r : List ℕ) → Rightly (table_of img.now) r (Ok result) (comes state_rows (table_of img.now) i r (sends code (Ok q))) }
 {
     let s = table_image::load_stream(img, i as usize);
-    let found = paper_rows::request_row(s, q);
-    match found {
+    match paper_rows::request_row(s, q) {
         None => {
             let no_row = paper_rules::without_row(q);
-            Decided::Does(i, i, paper_effects::error_effect(code, no_row))
+            Deed::alone(i, paper_effects::error_effect(code, no_row))
         }
         Some(x) => {
             let judged = judged_request(img, i, s, q);
             let verdict = judged.verdict;
-            let carrier = judged.carrier;
-            let e = paper_effects::effect_by(x, Token(i as u32 + 1), code, s, verdict);
-            Decided::Does(i, carrier, e)
+            Deed {
+                stream: i,
+                carrier: judged.carrier,
+                effect: paper_effects::effect_by(x, Token(i as u32 + 1), code, s, verdict),
+            }
         }
     }
 }
 
 // Step 1 of the order of errors, then the others, of message m, whichever record it came with.
-pub fn answer_message(img: &[u8], i: u8, m: &[u8]) -> Decided
+pub fn answer_message(img: &[u8], i: u8, m: &[u8]) -> Deed
     requires { Sent i img.now m.now }
-    ensures { (r : List ℕ) → Rightly (table_of img.now) r result
+    ensures { (r : List ℕ) → Rightly (table_of img.now) r (Ok result)
         (comes state_rows (table_of img.now) i r (sends (code_in m.now) (asked_by m.now))) }
 {
     let code = wire_messages::code_in(m);
-    let asked = wire_messages::asked_by(m);
-    match asked {
-        Err(rule) => Decided::Does(i, i, paper_effects::error_effect(code, rule)),
+    match wire_messages::asked_by(m) {
+        Err(rule) => Deed::alone(i, paper_effects::error_effect(code, rule)),
         Ok(q) => answer_request(img, i, code, q),
     }
 }

@@ -1,5 +1,5 @@
 -- What is asked of what was decided, and what is written for it.
-use Rattle.std.specs.Prelude.{ℕ, ◌≤◌, List, [], ◌∷◌}
+use Rattle.std.specs.Prelude.{ℕ, ◌≤◌, List, [], ◌∷◌, Result}
 use Rattle.octets.specs.Blocks.{pad_to}
 use Rattle.octets.specs.Runs.{part}
 use Rattle.octets.specs.Writing.{Wrote}
@@ -13,10 +13,11 @@ use Rattle.paper.specs.declared.LineOrder.TheVariants as line_order
 use Rattle.table_image.specs.Layout.{table_of}
 use Rattle.call_outcomes.specs.Deciding.{Enactable}
 use Rattle.call_outcomes.specs.Rooms.{LentCall, LentRoom}
-use Rattle.call_outcomes.specs.declared.Decided.{Decided}
+use Rattle.call_outcomes.specs.declared.Deed.{Deed}
+use Rattle.call_outcomes.specs.declared.Refusal.{Refusal}
 
 -- what was decided can be enacted, in room enough
-pub record Concludes (d : Decided) (img room : List ℕ) : Type 0 where
+pub record Concludes (d : Result Deed Refusal) (img room : List ℕ) : Type 0 where
   pub call : LentCall img room
   pub fits : Enactable (table_of img) d
 

@@ -9,7 +9,7 @@ ghost use Rattle.table_image.specs.Layout.{table_of};
 ghost use Rattle.table_image.specs.Lent.{LentAt};
 ghost use Rattle.call_outcomes.specs.Leaving.{left, leaving};
 ghost use Rattle.call_outcomes.specs.Deciding.{outcome_of};
-ghost use Rattle.call_outcomes.specs.declared.Decided.TheVariants as decided;
+ghost use Rattle.call_outcomes.specs.Answering.{call_number};
 ghost use Rattle.call_enacting.specs.Behind.{own_behind, behind_by};
 ghost use Rattle.paper.specs.RecordsIn.{message_size, data_size, block_in};
 ghost use Rattle.paper.specs.Room.{room_size, most_of_order, most_told, most_said};
@@ -18,7 +18,7 @@ ghost use Rattle.paper.specs.Replies.{most_tail};
 ghost use Rattle.call_outcomes.specs.Rooms.{LentRoom};
 ghost use Rattle.call_enacting.specs.Concluding.{Concludes, Writes, WroteBeside, datagram_bytes};
 
-use call_outcomes::Decided;
+use call_outcomes::{Deed, Refusal, Served};
 use octets::BLOCK_SIZE;
 use paper::{ADDRESS_SIZE, BODY_SIZE, Effect, Form, HEAD_SIZE, LineOrder, MAC_SIZE, MESSAGE_SIZE, MOST_TAIL, Reply, START_SIZE};
 
@@ -164,26 +164,33 @@ fn put_records(img: &[u8], room: &mut [u8], i: u8, c: u8, r: &[u8], e: Effect) -
 
 // ---- the call
 
-// An effect on stream i, where stream c carries, of a message or an event, whose record r is.
-fn enact(img: &mut [u8], room: &mut [u8], i: u8, c: u8, r: &[u8], e: Effect) -> u32
-    requires { Concludes (decided.Does i c e) img.old room.old }
-    ensures { left result img.new room.new ≡ leaving img.old room.old (outcome_of (table_of img.old) r.now (decided.Does i c e)) }
+// An effect, of a message or an event, whose record r is; how many bytes it wrote.
+fn enact(img: &mut [u8], room: &mut [u8], r: &[u8], d: Deed) -> u16
+    requires { Concludes (Ok d) img.old room.old }
+    ensures { left result img.new room.new ≡ leaving img.old room.old (outcome_of (table_of img.old) r.now (Ok d)) }
 {
-    let change = e.change;
-    let carries = e.carries;
-    let n = put_records(img, room, i, c, r, e);
+    let i = d.stream;
+    let c = d.carrier;
+    let change = d.effect.change;
+    let carries = d.effect.carries;
+    let n = put_records(img, room, i, c, r, d.effect);
     call_changes::change_stream(img, i, change);
     call_changes::carry(img, c, carries);
-    n as u32
+    n as u16
 }
 
 // What was decided, of a message or an event, whose record r is. A refusal leaves all as it stood.
-pub fn conclude(img: &mut [u8], room: &mut [u8], r: &[u8], d: Decided) -> u32
+pub fn conclude(
+    img: &mut [u8],
+    room: &mut [u8],
+    r: &[u8],
+    d: Result<Deed, Refusal>,
+) -> Result<Served, Refusal>
     requires { Concludes d img.old room.old }
-    ensures { left result img.new room.new ≡ leaving img.old room.old (outcome_of (table_of img.old) r.now d) }
+    ensures { left (call_number result) img.new room.new ≡ leaving img.old room.old (outcome_of (table_of img.old) r.now d) }
 {
     match d {
-        Decided::Refuses(n) => call_outcomes::refusing(n),
-        Decided::Does(i, c, e) => enact(img, room, i, c, r, e),
+        Err(refusal) => Err(refusal),
+        Ok(deed) => Ok(Served::Wrote(enact(img, room, r, deed))),
     }
 }

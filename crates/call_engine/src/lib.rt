@@ -8,10 +8,11 @@ ghost use Rattle.paper.specs.StateRows.{state_rows};
 ghost use Rattle.paper.specs.Step.{of_open, message, serve_by, is_readable};
 ghost use Rattle.table_image.specs.Layout.{table_of, sound_image};
 ghost use Rattle.call_outcomes.specs.Leaving.{left, leaving, call_of};
+ghost use Rattle.call_outcomes.specs.Answering.{call_number};
 ghost use Rattle.call_outcomes.specs.Deciding.{Rightly};
 ghost use Rattle.call_engine.specs.Reading.{Holds, Measured, ToStream, Servable};
 
-use call_outcomes::{Decided, LITTLE_ROOM, NO_CODE, NOT_A_RECORD, NOT_OPEN, NOT_SOUND, OVER_LONG};
+use call_outcomes::{Deed, Refusal, Served};
 use octets::BLOCK_SIZE;
 use paper::{FRAME_ROOM_SIZE, HEAD_SIZE, Input, MAC_SIZE, MOST_DATA, ROOM_SIZE};
 
@@ -27,27 +28,27 @@ fn message_in<'a>(r: &'a [u8], l: u8) -> &'a [u8]
 }
 
 // A message of stream i, with n bytes of data: refusals 2, 5 and 4, then its answer.
-fn message_to(img: &[u8], i: u8, l: u8, n: u8, r: &[u8]) -> Decided
+fn message_to(img: &[u8], i: u8, l: u8, n: u8, r: &[u8]) -> Result<Deed, Refusal>
     requires { Measured img.now r.now }
     ensures { Rightly (table_of img.now) r.now result (of_open (table_of img.now) i (message state_rows (table_of img.now) i l n r.now)) }
 {
     if !table_image::is_open(img, i as usize) {
-        return Decided::Refuses(NOT_OPEN);
+        return Err(Refusal::NotOpen);
     }
     if BLOCK_SIZE < l as usize {
-        return Decided::Refuses(OVER_LONG);
+        return Err(Refusal::OverLong);
     }
     if MOST_DATA < n as usize {
-        return Decided::Refuses(OVER_LONG);
+        return Err(Refusal::OverLong);
     }
     if l < 4 {
-        return Decided::Refuses(NO_CODE);
+        return Err(Refusal::NoCode);
     }
-    call_answering::answer_message(img, i, message_in(r, l))
+    Ok(call_answering::answer_message(img, i, message_in(r, l)))
 }
 
 // Any message, any event.
-fn decide_coming(img: &[u8], r: &[u8], q: Input) -> Decided
+fn decide_coming(img: &[u8], r: &[u8], q: Input) -> Result<Deed, Refusal>
     requires { ToStream q img.now r.now }
     ensures { Rightly (table_of img.now) r.now result (serve_by state_rows (table_of img.now) r.now q) }
 {
@@ -60,9 +61,9 @@ fn decide_coming(img: &[u8], r: &[u8], q: Input) -> Decided
 // ---- the call
 
 // A record that was read as q, in room enough.
-fn serve(img: &mut [u8], room: &mut [u8], r: &[u8], q: Input) -> u32
+fn serve(img: &mut [u8], room: &mut [u8], r: &[u8], q: Input) -> Result<Served, Refusal>
     requires { Servable q img.old r.now room.old }
-    ensures { left result img.new room.new ≡ leaving img.old room.old (serve_by state_rows (table_of img.old) r.now q) }
+    ensures { left (call_number result) img.new room.new ≡ leaving img.old room.old (serve_by state_rows (table_of img.old) r.now q) }
 {
     match q {
         Input::AddPpa(p) => call_openings::add_ppa(img, p, octets::part_at(r, 5, MAC_SIZE)),
@@ -76,24 +77,11 @@ fn serve(img: &mut [u8], room: &mut [u8], r: &[u8], q: Input) -> u32
     }
 }
 
+#[tactic(auto, unfolding(paper::specs::Step::is_readable))]
 fn is_readable(q: Input) -> bool
     ensures { result ≡ is_readable q }
 {
-    match q {
-        Input::Unreadable => false,
-        Input::Malformed => false,
-        Input::AddPpa(_) => true,
-        Input::Open => true,
-        Input::Close(_) => true,
-        Input::Message(_, _, _) => true,
-        Input::CallArrives(_, _) => true,
-        Input::PeerAccepted(_) => true,
-        Input::PeerGone(_, _) => true,
-        Input::CallWithdrawn(_, _, _) => true,
-        Input::PeerReset(_, _) => true,
-        Input::ResetConfirmed(_) => true,
-        Input::Frame(_) => true,
-    }
+    !matches!(q, Input::Unreadable | Input::Malformed)
 }
 
 // A call needs 128 bytes of room, the frame event 4,096.
@@ -107,26 +95,26 @@ fn room_for(q: Input) -> usize
 }
 
 // The call on a table that is known to be sound: refusals 10 and 1, then what the record asks for.
-pub fn call_sound(img: &mut [u8], r: &[u8], room: &mut [u8]) -> u32
+pub fn call_sound(img: &mut [u8], r: &[u8], room: &mut [u8]) -> Result<Served, Refusal>
     requires { sound_image img.old ≡ true }
-    ensures { left result img.new room.new ≡ call_of img.old r.now room.old }
+    ensures { left (call_number result) img.new room.new ≡ call_of img.old r.now room.old }
 {
     let q = wire_records::input_of(r);
     if !is_readable(q) {
-        return call_outcomes::refusing(NOT_A_RECORD);
+        return Err(Refusal::NotARecord);
     }
     if room.len() < room_for(q) {
-        return call_outcomes::refusing(LITTLE_ROOM);
+        return Err(Refusal::LittleRoom);
     }
     serve(img, room, r, q)
 }
 
 // The call on any table: refusal 16 first.
-pub fn call(img: &mut [u8], r: &[u8], room: &mut [u8]) -> u32
-    ensures { left result img.new room.new ≡ call_of img.old r.now room.old }
+pub fn call(img: &mut [u8], r: &[u8], room: &mut [u8]) -> Result<Served, Refusal>
+    ensures { left (call_number result) img.new room.new ≡ call_of img.old r.now room.old }
 {
     if !table_soundness::sound_image(img) {
-        return call_outcomes::refusing(NOT_SOUND);
+        return Err(Refusal::NotSound);
     }
     call_sound(img, r, room)
 }

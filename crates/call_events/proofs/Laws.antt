@@ -1,5 +1,5 @@
 -- What the line brings is decided by the row by which it may come: by none it is refused, else it does what that row says.
-use Rattle.std.proofs.Common.{None, Option, Some}
+use Rattle.std.proofs.Common.{None, Ok, Option, Some}
 use Prim.Native.Nat.{ℕ, ◌<◌, ◌≤◌}
 use native.Mathlib.Omega.{arith}
 use mathlib.Core.Path.{◌≡◌, refl, sym, ap, ◌∙◌}
@@ -26,7 +26,7 @@ use Rattle.paper.specs.declared.Event.TheVariants as event
 use Rattle.paper.specs.declared.Effect.{Effect}
 use Rattle.call_outcomes.specs.Takes.{takes}
 use Rattle.call_outcomes.specs.Deciding.{outcome_of}
-use Rattle.call_outcomes.specs.declared.Decided.TheVariants.{Does}
+use Rattle.call_outcomes.specs.Deciding as deciding
 use Rattle.call_events.specs.DueRow.{due_row}
 use Rattle.call_events.specs.Bringing.{is_of_line}
 use Rattle.paper.specs.Saps.{most_open}
@@ -34,7 +34,7 @@ use Rattle.paper.specs.Saps.{most_open}
 module _ (t : Table) (i : ℕ) (r : List ℕ) (refusal : ℕ) (e : Event) where
   -- an effect of what the line brings: it names no stream that would carry
   abbrev doing : Effect → Outcome
-  doing w = outcome_of t r (Does i i w)
+  doing w = outcome_of t r (Ok (deciding.doing i i w))
 
   abbrev by : Option StateRow → Outcome
   by None = refused t refusal

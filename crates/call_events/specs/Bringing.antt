@@ -1,5 +1,5 @@
 -- What a record of the line brings, in code.
-use Rattle.std.specs.Prelude.{ℕ, ◌<◌, ◌≤◌, ◌≡◌, Bool, true, false, List}
+use Rattle.std.specs.Prelude.{ℕ, ◌<◌, ◌≤◌, ◌≡◌, Bool, true, false, List, Result, Ok, Err, IfOk}
 use Rattle.paper.specs.Base.{Table, stream_total, stream}
 use Rattle.paper.specs.Refusals.{Outcome, refused}
 use Rattle.paper.specs.StateRows.{state_rows}
@@ -7,28 +7,23 @@ use Rattle.paper.specs.Sight.{brings}
 use Rattle.paper.specs.Step.{comes}
 use Rattle.paper.specs.declared.Input.{Input}
 use Rattle.paper.specs.declared.Input.TheVariants as input
+use Rattle.call_outcomes.specs.Answering.{refusal_number}
+use Rattle.call_outcomes.specs.declared.Refusal.{Refusal}
 use Rattle.call_events.specs.declared.Brought.{Brought}
-use Rattle.call_events.specs.declared.Brought.TheVariants.{Refused, To}
 use Rattle.paper.specs.Saps.{most_open}
 use Rattle.table_image.specs.Lent.{Lent, LentAt}
 use Rattle.table_image.specs.Layout.{table_of}
 
 -- what it comes to, where r is the record
-abbrev pub brought_by : Table → List ℕ → Brought → Outcome
-brought_by t r (Refused n) = refused t n
-brought_by t r (To i refusal e) = comes state_rows t i r (brings refusal e)
+abbrev pub brought_by : Table → List ℕ → Result Brought Refusal → Outcome
+brought_by t r (Err refusal) = refused t (refusal_number refusal)
+brought_by t r (Ok b) = comes state_rows t b.stream r (brings (refusal_number b.refusal) b.event)
 
--- The stream is one of the table, and a refusal would have a number.
-pub record Named (i refusal : ℕ) : Type 0 where
-  pub within : i < stream_total
-  pub numbered : 0 < refusal
+-- The stream is one of the table.
+abbrev pub Bringable : Result Brought Refusal → Type 0
+Bringable b = IfOk b (λ (x : Brought). x.stream < stream_total)
 
--- A refusal has a number.
-abbrev pub Bringable : Brought → Type 0
-Bringable (Refused n) = 0 < n
-Bringable (To i refusal e) = Named i refusal
-
-pub record RightlyBrought (t : Table) (r : List ℕ) (b : Brought) (o : Outcome) : Type 0 where
+pub record RightlyBrought (t : Table) (r : List ℕ) (b : Result Brought Refusal) (o : Outcome) : Type 0 where
   pub comes : brought_by t r b ≡ o
   pub fits : Bringable b
 
@@ -51,9 +46,8 @@ is_of_line (input.Frame f) = false
 -- ---- what is asked of the table
 
 -- a stream to which an event may come, with at most 8 granted
-pub record Comes (i refusal : ℕ) (img : List ℕ) : Type 0 where
+pub record Comes (i : ℕ) (img : List ℕ) : Type 0 where
   pub at : LentAt i img
-  pub numbered : 0 < refusal
   pub granted : (stream (table_of img) i).granted ≤ most_open
 
 -- a record of the line, or what could not be read

@@ -6,6 +6,7 @@ ghost use Rattle.octets.specs.Runs.{same_bytes};
 ghost use Rattle.paper.specs.Base.{slot, mac_of, mac_size};
 ghost use Rattle.paper.specs.RecordsIn.{called_in};
 ghost use Rattle.paper.specs.Refusals.{unexpected};
+ghost use Rattle.call_outcomes.specs.Answering.{refusal_number};
 ghost use Rattle.paper.specs.StateRows.{state_rows};
 ghost use Rattle.paper.specs.Sight.{brings};
 ghost use Rattle.paper.specs.Decide.{is_due};
@@ -16,7 +17,7 @@ ghost use Rattle.call_outcomes.specs.Deciding.{Rightly};
 ghost use Rattle.call_events.specs.DueRow.{due_row};
 ghost use Rattle.call_events.specs.Bringing.{RightlyBrought, Comes, OfLine, Occurs};
 
-use call_outcomes::{BUSY, Decided, NOBODY_THERE, NOT_A_RECORD, NOT_OPEN, UNEXPECTED};
+use call_outcomes::{Deed, Refusal};
 use paper::{Correlation, Event, Input, MAC_SIZE, PpaNumber, STREAM_TOTAL, StateRow, Stream};
 
 // ---- the row by which an event may come
@@ -51,39 +52,42 @@ fn row_of(img: &[u8], i: u8, s: Stream, event: Event) -> Option<StateRow>
 }
 
 // An event of stream i: what its row says, or the refusal.
-fn come(img: &[u8], i: u8, refusal: u8, event: Event) -> Decided
-    requires { Comes i refusal img.now }
-    ensures { (r : List ℕ) → Rightly (table_of img.now) r result (comes state_rows (table_of img.now) i r (brings refusal event)) }
+fn come(img: &[u8], i: u8, refusal: Refusal, event: Event) -> Result<Deed, Refusal>
+    requires { Comes i img.now }
+    ensures { (r : List ℕ) → Rightly (table_of img.now) r result
+        (comes state_rows (table_of img.now) i r (brings (refusal_number refusal) event)) }
 {
     let s = table_image::load_stream(img, i as usize);
-    let found = row_of(img, i, s, event);
-    match found {
-        None => Decided::Refuses(refusal),
-        Some(x) => Decided::Does(i, i, paper_effects::event_effect(x, s, event)),
-    }
+    let Some(x) = row_of(img, i, s, event) else {
+        return Err(refusal);
+    };
+    Ok(Deed::alone(i, paper_effects::event_effect(x, s, event)))
 }
 
 // ---- the stream that it comes to
 
-// What a record of the line brings.
+// What a record of the line brings to a stream: an event, and the refusal where it may not come.
 #[derive(Clone, Copy)]
-enum Brought {
-    // a refusal, before any row is looked for
-    Refused(u8),
-    // to a stream an event, with the refusal number where it may not come
-    To(u8, u8, Event),
+struct Brought {
+    stream: u8,
+    refusal: Refusal,
+    event: Event,
 }
 
 // A, D, W, R and S name their stream: 2 unless it is open, then 6 where there is no row.
-fn named(img: &[u8], i: u8, event: Event) -> Brought
+fn named(img: &[u8], i: u8, event: Event) -> Result<Brought, Refusal>
     requires { Lent img.now }
     ensures { (r : List ℕ) → RightlyBrought (table_of img.now) r result
         (of_open (table_of img.now) i (comes state_rows (table_of img.now) i r (brings unexpected event))) }
 {
     if !table_image::is_open(img, i as usize) {
-        return Brought::Refused(NOT_OPEN);
+        return Err(Refusal::NotOpen);
     }
-    Brought::To(i, UNEXPECTED, event)
+    Ok(Brought {
+        stream: i,
+        refusal: Refusal::Unexpected,
+        event,
+    })
 }
 
 // In the record the called address comes first, its MAC before its SAP.
@@ -96,26 +100,30 @@ fn is_called(img: &[u8], p: PpaNumber, r: &[u8]) -> bool
 
 // I comes to its listener, with the next number: 7 unless the PPA is known and has the called MAC, and somebody listens for it
 // and the SAP; then 8 where the listener is busy.
-fn arrives(img: &[u8], p: PpaNumber, sap: u8, r: &[u8]) -> Brought
+fn arrives(img: &[u8], p: PpaNumber, sap: u8, r: &[u8]) -> Result<Brought, Refusal>
     requires { Lent img.now }
     ensures { RightlyBrought (table_of img.now) r.now result (arrives state_rows (table_of img.now) p sap r.now) }
 {
     if !table_lookup::knows(img, p) {
-        return Brought::Refused(NOBODY_THERE);
+        return Err(Refusal::NobodyThere);
     }
     if !is_called(img, p, r) {
-        return Brought::Refused(NOBODY_THERE);
+        return Err(Refusal::NobodyThere);
     }
     let i = table_lookup::listener(img, p, octets::wide(sap));
     if STREAM_TOTAL <= i {
-        return Brought::Refused(NOBODY_THERE);
+        return Err(Refusal::NobodyThere);
     }
     let n = table_numbers::next_number(img);
-    Brought::To(i as u8, BUSY, Event::Arrives(Correlation(n)))
+    Ok(Brought {
+        stream: i as u8,
+        refusal: Refusal::Busy,
+        event: Event::Arrives(Correlation(n)),
+    })
 }
 
 // By the record's kind. (What could not be read is refusal 10.)
-fn bring(img: &[u8], r: &[u8], q: Input) -> Brought
+fn bring(img: &[u8], r: &[u8], q: Input) -> Result<Brought, Refusal>
     requires { OfLine q img.now }
     ensures { RightlyBrought (table_of img.now) r.now result (serve_by state_rows (table_of img.now) r.now q) }
 {
@@ -126,20 +134,17 @@ fn bring(img: &[u8], r: &[u8], q: Input) -> Brought
         Input::CallWithdrawn(i, n, reason) => named(img, i, Event::Withdrawn(n, reason)),
         Input::PeerReset(i, reason) => named(img, i, Event::Resets(reason)),
         Input::ResetConfirmed(i) => named(img, i, Event::Confirmed),
-        _ => Brought::Refused(NOT_A_RECORD),
+        _ => Err(Refusal::NotARecord),
     }
 }
 
 // ---- any event
 
 // What is decided of a record of the line.
-pub fn occur(img: &[u8], r: &[u8], q: Input) -> Decided
+pub fn occur(img: &[u8], r: &[u8], q: Input) -> Result<Deed, Refusal>
     requires { Occurs q img.now }
     ensures { Rightly (table_of img.now) r.now result (serve_by state_rows (table_of img.now) r.now q) }
 {
-    let b = bring(img, r, q);
-    match b {
-        Brought::Refused(n) => Decided::Refuses(n),
-        Brought::To(i, refusal, event) => come(img, i, refusal, event),
-    }
+    let b = bring(img, r, q)?;
+    come(img, b.stream, b.refusal, b.event)
 }

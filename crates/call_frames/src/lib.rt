@@ -12,9 +12,10 @@ ghost use Rattle.paper.specs.StateRows.{state_rows};
 ghost use Rattle.table_image.specs.Layout.{table_of};
 ghost use Rattle.table_image.specs.Lent.{Lent, LentAt};
 ghost use Rattle.call_outcomes.specs.Leaving.{left, leaving};
+ghost use Rattle.call_outcomes.specs.Answering.{call_number};
 ghost use Rattle.call_frames.specs.Showing.{if_shown, block_of, Framed, ShowsOne, Shows, most_shown};
 
-use call_outcomes::{NOBODY_THERE, OVER_LONG};
+use call_outcomes::{Refusal, Served};
 use octets::BLOCK_SIZE;
 use paper::{BODY_SIZE, Form, Frame, MAC_SIZE, MOST_DATA, STREAM_TOTAL, Stream};
 
@@ -104,21 +105,22 @@ fn is_called(img: &[u8], r: &[u8], f: Frame) -> bool
 }
 
 // 5 for data over 64, 7 on an unknown PPA; else the indications, none where the called MAC is another.
-pub fn show(img: &[u8], room: &mut [u8], r: &[u8], f: Frame) -> u32
+pub fn show(img: &[u8], room: &mut [u8], r: &[u8], f: Frame) -> Result<Served, Refusal>
     requires { Framed r.now img.now room.old }
-    ensures { left result img.now room.new ≡ leaving img.now room.old (frames state_rows (table_of img.now) r.now f) }
+    ensures { left (call_number result) img.now room.new ≡ leaving img.now room.old (frames state_rows (table_of img.now) r.now f) }
 {
     let p = f.ppa;
     let form = f.form;
     if MOST_DATA < f.bytes as usize {
-        return call_outcomes::refusing(OVER_LONG);
+        return Err(Refusal::OverLong);
     }
     if !table_lookup::knows(img, p) {
-        return call_outcomes::refusing(NOBODY_THERE);
+        return Err(Refusal::NobodyThere);
     }
     if !is_called(img, r, f) {
-        return 0;
+        return Ok(Served::Wrote(0));
     }
     let block = block_in(r, form);
-    put_indications(img, room, r, f, &block) as u32
+    let written = put_indications(img, room, r, f, &block);
+    Ok(Served::Wrote(written as u16))
 }

@@ -9,43 +9,44 @@ ghost use Rattle.paper.specs.Step.{of_open};
 ghost use Rattle.paper.specs.Room.{room_size};
 ghost use Rattle.table_image.specs.Layout.{table_of};
 ghost use Rattle.call_outcomes.specs.Leaving.{left, leaving};
+ghost use Rattle.call_outcomes.specs.Answering.{call_number};
 ghost use Rattle.octets.specs.Writing.{WroteMost};
 ghost use Rattle.table_image.specs.Lent.{LentMac};
 ghost use Rattle.call_outcomes.specs.Rooms.{LentCall, LentRoom};
 ghost use Rattle.call_openings.specs.Openable.{Openable, most_goodbyes};
 
-use call_outcomes::{ALL_OPEN, NO_NEW_PPA, NOT_OPEN};
+use call_outcomes::{Refusal, Served};
 use paper::{Correlation, DISCONNECT_SIZE, LineOrder, MOST_PPAS, PpaNumber};
 
 // G adds a PPA: none after any opening, no ninth, none whose number is already there.
-pub fn add_ppa(img: &mut [u8], p: PpaNumber, mac: &[u8]) -> u32
+pub fn add_ppa(img: &mut [u8], p: PpaNumber, mac: &[u8]) -> Result<Served, Refusal>
     requires { LentMac mac.now img.old }
-    ensures { (room : List ℕ) → left result img.new room ≡ leaving img.old room (adds_ppa (table_of img.old) p mac.now) }
+    ensures { (room : List ℕ) → left (call_number result) img.new room ≡ leaving img.old room (adds_ppa (table_of img.old) p mac.now) }
 {
     if table_image::remembers(img) {
-        return call_outcomes::refusing(NO_NEW_PPA);
+        return Err(Refusal::NoNewPpa);
     }
     if MOST_PPAS <= table_image::ppa_total(img) as usize {
-        return call_outcomes::refusing(NO_NEW_PPA);
+        return Err(Refusal::NoNewPpa);
     }
     if table_lookup::knows(img, p) {
-        return call_outcomes::refusing(NO_NEW_PPA);
+        return Err(Refusal::NoNewPpa);
     }
     table_image::store_ppa(img, p, mac);
-    0
+    Ok(Served::Wrote(0))
 }
 
 // Opening takes the lowest free stream and gives its token.
-pub fn open_stream(img: &mut [u8]) -> u32
+pub fn open_stream(img: &mut [u8]) -> Result<Served, Refusal>
     requires { Openable img.old }
-    ensures { (room : List ℕ) → left result img.new room ≡ leaving img.old room (opens (table_of img.old)) }
+    ensures { (room : List ℕ) → left (call_number result) img.new room ≡ leaving img.old room (opens (table_of img.old)) }
 {
     if table_image::free_total(img) == 0 {
-        return call_outcomes::refusing(ALL_OPEN);
+        return Err(Refusal::AllOpen);
     }
     let i = table_image::lowest_free(img);
     table_image::open_slot(img, i as usize);
-    (i + 1) * 16777216
+    Ok(Served::Opened(i as u8 + 1))
 }
 
 // A d with reason 0 for each open indication, the oldest first.
@@ -84,15 +85,15 @@ fn put_goodbyes(img: &[u8], room: &mut [u8], i: u8) -> usize
 }
 
 // A close tells the line, and frees the stream.
-pub fn close_stream(img: &mut [u8], room: &mut [u8], i: u8) -> u32
+pub fn close_stream(img: &mut [u8], room: &mut [u8], i: u8) -> Result<Served, Refusal>
     requires { LentCall img.old room.old }
-    ensures { left result img.new room.new ≡ leaving img.old room.old (of_open (table_of img.old) i (closes (table_of img.old) i)) }
+    ensures { left (call_number result) img.new room.new ≡ leaving img.old room.old (of_open (table_of img.old) i (closes (table_of img.old) i)) }
 {
     let at = i as usize;
     if !table_image::is_open(img, at) {
-        return call_outcomes::refusing(NOT_OPEN);
+        return Err(Refusal::NotOpen);
     }
     let written = put_goodbyes(img, room, i);
     table_image::close_slot(img, at);
-    written as u32
+    Ok(Served::Wrote(written as u16))
 }

@@ -14,6 +14,9 @@ use Rattle.paper.specs.Sound.{sound}
 use Rattle.paper.specs.Step.{step_by}
 use Rattle.table_image.specs.Layout.{table_of, image_of, tidy, sound_image}
 use Rattle.call_outcomes.specs.Leaving.{Left, left, refusing, leaving, call_of}
+use Rattle.call_outcomes.specs.Answering.{refusal_number}
+use Rattle.call_outcomes.specs.declared.Refusal.{Refusal}
+use Rattle.call_outcomes.specs.declared.Refusal.TheVariants as refusal
 use Rattle.octets.specs.Writing.{Wrote}
 use Rattle.octets.proofs.Writing.{wrote-over}
 
@@ -40,6 +43,20 @@ where_false img room o p e h = rw e h
 pub leaves_refused : (img room : List ℕ) (t : Table) (k n : ℕ) → 0 < k → n ≡ refusing k → left n img room ≡ leaving img room (refused t k)
 unfolding leaving ◌⇒◌∣◌
 leaves_refused img room t k n h e = rw (lt-ltb 0 k h) (ap (λ (m : ℕ). left m img room) e)
+
+-- each refusal has a number
+pub some_number : (x : Refusal) → 0 < refusal_number x
+some_number refusal.LittleRoom = omega arith
+some_number refusal.NotOpen = omega arith
+some_number refusal.AllOpen = omega arith
+some_number refusal.NoCode = omega arith
+some_number refusal.OverLong = omega arith
+some_number refusal.Unexpected = omega arith
+some_number refusal.NobodyThere = omega arith
+some_number refusal.Busy = omega arith
+some_number refusal.NoNewPpa = omega arith
+some_number refusal.NotARecord = omega arith
+some_number refusal.NotSound = omega arith
 
 -- "16: a table that isn't sound", before all other tests.
 pub unsound_gives_sixteen : (img r room : List ℕ) → sound_image img ≡ false → call_of img r room ≡ left (refusing not_sound) img room

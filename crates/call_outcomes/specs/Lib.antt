@@ -3,3 +3,4 @@ pub mod Fresh
 pub mod Takes
 pub mod Deciding
 pub mod Rooms
+pub mod Answering

@@ -1,59 +1,99 @@
-// What is decided of a call, and what it leaves in the bytes lent to it: see specs/.
+// What is decided of a call, and what the call comes to: see specs/.
 #![tactic(auto)]
 
 ghost use Rattle.std.specs.Prelude.{◌≡◌};
-ghost use Rattle.call_outcomes.specs.Leaving.{refusing};
+ghost use Rattle.call_outcomes.specs.Answering.{refusal_number, call_number};
+ghost use Rattle.call_outcomes.specs.Deciding.{doing};
 
 use paper::Effect;
 
-// The refusal numbers of the rule paper.
-
-// room under 128 bytes; of a frame under 4,096
-pub const LITTLE_ROOM: u8 = 1;
-
-// stream over 15, or not open
-pub const NOT_OPEN: u8 = 2;
-
-// open, and all 16 are open
-pub const ALL_OPEN: u8 = 3;
-
-// message with L under 4
-pub const NO_CODE: u8 = 4;
-
-// L over 96; data over 64
-pub const OVER_LONG: u8 = 5;
-
-// A, D, R or S with no row; W whose number is not open on that stream
-pub const UNEXPECTED: u8 = 6;
-
-// I whose PPA is unknown, whose called MAC isn't that PPA's, or for whose PPA and SAP nobody listens; a frame on an unknown PPA
-pub const NOBODY_THERE: u8 = 7;
-
-// I whose listener is in a state other than 6 or 9, or has its granted count open
-pub const BUSY: u8 = 8;
-
-// G after any opening, or a ninth PPA, or a number already there
-pub const NO_NEW_PPA: u8 = 9;
-
-// no bytes, unknown kind or cut body, or nonzero padding with L at most 96; 0x07 without its M, an M by itself, an address
-// length not 7 or 8, or nonzero padding of a datagram or frame
-pub const NOT_A_RECORD: u8 = 10;
-
-// a table that isn't sound
-pub const NOT_SOUND: u8 = 16;
-
-// The number of a refused call.
-pub fn refusing(n: u8) -> u32
-    ensures { result ≡ refusing n }
-{
-    octets::wide(n) * 65536
+// The refusals of the rule paper.
+#[derive(Clone, Copy)]
+pub enum Refusal {
+    // room under 128 bytes; of a frame under 4,096
+    LittleRoom,
+    // stream over 15, or not open
+    NotOpen,
+    // open, and all 16 are open
+    AllOpen,
+    // message with L under 4
+    NoCode,
+    // L over 96; data over 64
+    OverLong,
+    // A, D, R or S with no row; W whose number is not open on that stream
+    Unexpected,
+    // I whose PPA is unknown, whose called MAC isn't that PPA's, or for whose PPA and SAP nobody listens; a frame on an unknown PPA
+    NobodyThere,
+    // I whose listener is in a state other than 6 or 9, or has its granted count open
+    Busy,
+    // G after any opening, or a ninth PPA, or a number already there
+    NoNewPpa,
+    // no bytes, unknown kind or cut body, or nonzero padding with L at most 96; 0x07 without its M, an M by itself, an address
+    // length not 7 or 8, or nonzero padding of a datagram or frame
+    NotARecord,
+    // a table that isn't sound
+    NotSound,
 }
 
-// What is decided of what comes to a stream, before anything is written.
+impl Refusal {
+    // Its number in the rule paper.
+    pub fn number(self) -> u8
+        ensures { result ≡ refusal_number self }
+    {
+        match self {
+            Refusal::LittleRoom => 1,
+            Refusal::NotOpen => 2,
+            Refusal::AllOpen => 3,
+            Refusal::NoCode => 4,
+            Refusal::OverLong => 5,
+            Refusal::Unexpected => 6,
+            Refusal::NobodyThere => 7,
+            Refusal::Busy => 8,
+            Refusal::NoNewPpa => 9,
+            Refusal::NotARecord => 10,
+            Refusal::NotSound => 16,
+        }
+    }
+}
+
+// What a served call is answered with.
 #[derive(Clone, Copy)]
-pub enum Decided {
-    // the refusal number
-    Refuses(u8),
-    // an effect on the first stream, where the second one carries
-    Does(u8, u8, Effect),
+pub enum Served {
+    // how many bytes of the room were written
+    Wrote(u16),
+    // the token of the stream that was opened
+    Opened(u8),
+}
+
+// The number that C is told of a call: the bytes written in bits 0 to 15, the refusal number in 16 to 23, the token of the
+// stream just opened in 24 to 31.
+pub fn call_number(answer: Result<Served, Refusal>) -> u32
+    ensures { result ≡ call_number answer }
+{
+    match answer {
+        Ok(Served::Wrote(bytes)) => u32::from(bytes),
+        Ok(Served::Opened(token)) => u32::from(token) * 16777216,
+        Err(refusal) => u32::from(refusal.number()) * 65536,
+    }
+}
+
+// What is decided of what comes to a stream, before anything is written: an effect on that stream, where the carrier carries.
+#[derive(Clone, Copy)]
+pub struct Deed {
+    pub stream: u8,
+    pub carrier: u8,
+    pub effect: Effect,
+}
+
+impl Deed {
+    // An effect on a stream, where no other carries.
+    pub fn alone(stream: u8, effect: Effect) -> Deed
+        ensures { result ≡ doing stream stream effect }
+    {
+        Deed {
+            stream,
+            carrier: stream,
+            effect,
+        }
+    }
 }

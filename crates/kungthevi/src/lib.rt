@@ -9,7 +9,7 @@ ghost use Rattle.paper.specs.RecordsIn.{record_size};
 ghost use Rattle.call_outcomes.specs.Leaving.{left, call_of};
 ghost use Rattle.call_outcomes.specs.Fresh.{made, fresh_of};
 
-use call_outcomes::NOT_SOUND;
+use call_outcomes::Refusal;
 use table_image::IMAGE_SIZE;
 
 // Makes a fresh table: 0, or 16 where the length is wrong, and then the bytes stay as they stood.
@@ -18,7 +18,7 @@ pub extern "C" fn kungthevi_fresh(table: &mut [u8]) -> u32
     ensures { made result table.new ≡ fresh_of table.old }
 {
     if table.len() != IMAGE_SIZE {
-        return NOT_SOUND as u32;
+        return u32::from(Refusal::NotSound.number());
     }
     table_image::make_fresh(table);
     0
@@ -30,7 +30,7 @@ pub extern "C" fn kungthevi_fresh(table: &mut [u8]) -> u32
 pub extern "C" fn kungthevi_call(table: &mut [u8], bytes: &[u8], room: &mut [u8]) -> u32
     ensures { left result table.new room.new ≡ call_of table.old bytes.now room.old }
 {
-    call_engine::call(table, bytes, room)
+    call_outcomes::call_number(call_engine::call(table, bytes, room))
 }
 
 // How far reading goes on behind the record at the start of the bytes: its size, of a datagram with its M, or 0 where reading

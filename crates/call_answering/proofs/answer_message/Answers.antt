@@ -16,13 +16,13 @@ returns-in-Err c =
     let t = table_of c.args.img.now in
     let i = c.args.i in
     let effect = c.error_effect.ensures in
-    λ r. record {
+    λ r. rw c.alone.ensures (record {
       comes =
           wrong t i r _ _ _ effect
           ∙ ap₂ (λ (n : ℕ) (q : Result Request Rule). comes state_rows t i r (sends n q)) c.code_in-code.ensures
-          (sym c.in-Err.is ∙ c.asked_by-asked.ensures);
+          (sym c.in-Err.is ∙ c.asked_by.ensures);
       fits = error_placed _ c.requires.at.within _ effect;
-    }
+    })
 
 pub returns-in-Ok : goal.returns-in-Ok
 returns-in-Ok c =
@@ -33,6 +33,6 @@ returns-in-Ok c =
       comes =
           (answered r).comes
           ∙ ap₂ (λ (n : ℕ) (q : Result Request Rule). comes state_rows t i r (sends n q)) c.code_in-code.ensures
-          (sym c.in-Ok.is ∙ c.asked_by-asked.ensures);
+          (sym c.in-Ok.is ∙ c.asked_by.ensures);
       fits = (answered r).fits;
     }

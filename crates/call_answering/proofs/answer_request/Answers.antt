@@ -9,19 +9,19 @@ use Rattle.call_answering.proofs.answer_request.Goals as goal
 pub returns-in-None : goal.returns-in-None
 returns-in-None c =
     let effect = c.error_effect.ensures ∙ ap (error_effect c.args.code) c.without_row-no_row.ensures in
-    λ r. record {
+    λ r. rw c.alone.ensures (record {
       comes =
           no_row (table_of c.args.img.now) c.args.i r c.args.code c.args.q _ _ c.load_stream-s.ensures
-          c.request_row-found.ensures _ c.in-None.is effect;
+          c.request_row.ensures _ c.in-None.is effect;
       fits = error_placed _ c.requires.within _ effect;
-    }
+    })
 
 pub returns-in-Some : goal.returns-in-Some
 returns-in-Some c =
-    let effect = c.effect_by-e.ensures in
+    let effect = c.effect_by.ensures in
     λ r. record {
       comes =
           by_row (table_of c.args.img.now) c.args.i r c.args.code c.args.q _ _ c.load_stream-s.ensures
-          c.request_row-found.ensures _ _ _ c.in-Some.is c.judged_request-judged.ensures effect;
+          c.request_row.ensures _ _ _ c.in-Some.is c.judged_request-judged.ensures effect;
       fits = message-placed _ c.requires.within _ _ _ _ _ effect;
     }

@@ -12,19 +12,19 @@ use Rattle.call_enacting.proofs.enact.Goals as goal
 pub carry-requires : goal.carry-requires
 carry-requires c =
     let t = table_of c.args.img.now in
-    let change = c.args.e.change in
-    let shaped = shaped-changed t c.requires.call.lent.shaped c.args.i change c.requires.fits.place in
-    lent_after (changed t c.args.i change) shaped _ c.change_stream.ensures
+    let change = c.args.d.effect.change in
+    let shaped = shaped-changed t c.requires.call.lent.shaped c.args.d.stream change c.requires.fits.place in
+    lent_after (changed t c.args.d.stream change) shaped _ c.change_stream.ensures
 
 pub returns : goal.returns
 unfolding enacted
 returns c =
     let img = c.args.img.now in
     let t = table_of img in
-    let i = c.args.i in
-    let k = c.args.c in
+    let i = c.args.d.stream in
+    let k = c.args.d.carrier in
     let m = c.args.r.now in
-    let e = c.args.e in
+    let e = c.args.d.effect in
     let shaped = shaped-changed t c.requires.call.lent.shaped i e.change c.requires.fits.place in
     leaves_served img c.args.room.now (enacted t i k m e) (told i k (slot t i) (mac_at t i) m e) _ _ _
     (wrote_of c.put_records-n.ensures)

@@ -9,8 +9,7 @@ pub returns-then-not-sound_image : goal.returns-then-not-sound_image
 returns-then-not-sound_image c =
     let img = c.args.img.now in
     let room = c.args.room.now in
-    ap (λ (n : ℕ). left n img room) c.refusing.ensures
-    ∙ sym (unsound_gives_sixteen img c.args.r.now room (sym c.sound_image.ensures ∙ c.if-not-sound_image.true))
+    sym (unsound_gives_sixteen img c.args.r.now room (sym c.sound_image.ensures ∙ c.if-not-sound_image.true))
 
 pub call_sound-requires : goal.call_sound-requires
 call_sound-requires c = sym c.sound_image.ensures ∙ c.if-not-sound_image.false

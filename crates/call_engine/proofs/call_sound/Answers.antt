@@ -1,7 +1,7 @@
 -- Refusals 10 and 1 in the definition's order; then the record is served.
 use Prim.Native.Nat.{ℕ, ◌≤◌}
 use native.Mathlib.Omega.{arith}
-use mathlib.Core.Path.{sym, ap, subst, ◌∙◌}
+use mathlib.Core.Path.{refl, sym, ap, subst, ◌∙◌}
 use mathlib.Core.Bool.{not}
 use lib.ListN.{length}
 use lib.Dec.{ltb}
@@ -21,7 +21,7 @@ returns-then-not-is_readable c =
     let img = c.args.img.now in
     let room = c.args.room.now in
     where_true img room _ _ (ap not (sym (c.is_readable.ensures ∙ ap is_readable c.input_of-q.ensures) ∙ c.if-not-is_readable.true))
-    (leaves_refused img room (table_of img) 10 _ (omega arith) c.refusing.ensures)
+    (leaves_refused img room (table_of img) 10 _ (omega arith) refl)
     ∙ call-on img c.args.r.now room c.requires
 
 pub returns-then-room-room_for : goal.returns-then-room-room_for
@@ -31,7 +31,7 @@ returns-then-room-room_for c =
     let needed = c.room_for.ensures ∙ ap room_for c.input_of-q.ensures in
     where_false img room _ _ (ap not (sym (c.is_readable.ensures ∙ ap is_readable c.input_of-q.ensures) ∙ c.if-not-is_readable.false))
     (where_true img room _ _ (ap (ltb (length room)) (sym needed) ∙ lt-ltb _ _ c.if-room-room_for.true)
-    (leaves_refused img room (table_of img) 1 _ (omega arith) c.refusing-then-room-room_for.ensures))
+    (leaves_refused img room (table_of img) 1 _ (omega arith) refl))
     ∙ call-on img c.args.r.now room c.requires
 
 pub serve-requires : goal.serve-requires

@@ -20,19 +20,19 @@ use Rattle.call_engine.proofs.message_to.Goals as goal
 
 pub returns-then-not-is_open : goal.returns-then-not-is_open
 unfolding of_open ◌⇒◌∣◌
-returns-then-not-is_open c = record { comes = rw (ap not (sym c.is_open.ensures ∙ c.if-not-is_open.true)); fits = omega arith }
+returns-then-not-is_open c = record { comes = rw (ap not (sym c.is_open.ensures ∙ c.if-not-is_open.true)); fits = tt }
 
 pub returns-then-l-gt-BLOCK_SIZE : goal.returns-then-l-gt-BLOCK_SIZE
 unfolding of_open message ◌⇒◌∣◌
 returns-then-l-gt-BLOCK_SIZE c =
-    record { comes = rw (ap not (sym c.is_open.ensures ∙ c.if-not-is_open.false), lt-ltb _ _ c.if-l-gt-BLOCK_SIZE.true); fits = omega arith }
+    record { comes = rw (ap not (sym c.is_open.ensures ∙ c.if-not-is_open.false), lt-ltb _ _ c.if-l-gt-BLOCK_SIZE.true); fits = tt }
 
 pub returns-then-n-gt-MOST_DATA : goal.returns-then-n-gt-MOST_DATA
 unfolding of_open message ◌⇒◌∣◌
 returns-then-n-gt-MOST_DATA c =
     record {
       comes = rw (ap not (sym c.is_open.ensures ∙ c.if-not-is_open.false), le-ltb _ _ c.if-l-gt-BLOCK_SIZE.false, lt-ltb _ _ c.if-n-gt-MOST_DATA.true);
-      fits = omega arith;
+      fits = tt;
     }
 
 pub returns-then-l-lt4 : goal.returns-then-l-lt4
@@ -46,7 +46,7 @@ returns-then-l-lt4 c =
             le-ltb _ _ c.if-n-gt-MOST_DATA.false,
             lt-ltb _ _ c.if-l-lt4.true,
           );
-      fits = omega arith;
+      fits = tt;
     }
 
 pub answer_message-requires : goal.answer_message-requires

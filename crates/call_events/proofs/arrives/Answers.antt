@@ -18,14 +18,14 @@ use Rattle.call_events.proofs.arrives.Goals as goal
 
 pub returns-then-not-knows : goal.returns-then-not-knows
 unfolding arrives ◌⇒◌∣◌
-returns-then-not-knows c = record { comes = rw (ap not (sym c.knows.ensures ∙ c.if-not-knows.true)); fits = omega arith }
+returns-then-not-knows c = record { comes = rw (ap not (sym c.knows.ensures ∙ c.if-not-knows.true)); fits = tt }
 
 pub returns-then-not-is_called : goal.returns-then-not-is_called
 unfolding arrives ◌⇒◌∣◌
 returns-then-not-is_called c =
     record {
       comes = rw (ap not (sym c.knows.ensures ∙ c.if-not-knows.false), ap not (sym c.is_called.ensures ∙ c.if-not-is_called.true));
-      fits = omega arith;
+      fits = tt;
     }
 
 pub returns-then-i-ge-STREAM_TOTAL : goal.returns-then-i-ge-STREAM_TOTAL
@@ -39,7 +39,7 @@ returns-then-i-ge-STREAM_TOTAL c =
             ap not (sym c.is_called.ensures ∙ c.if-not-is_called.false),
             ap (λ (j : ℕ). not (ltb j stream_total)) (sym e) ∙ ap not (le-ltb _ _ c.if-i-ge-STREAM_TOTAL.true),
           );
-      fits = omega arith;
+      fits = tt;
     }
 
 pub returns : goal.returns
@@ -55,5 +55,5 @@ returns c =
             ap not (sym c.is_called.ensures ∙ c.if-not-is_called.false),
             ap (λ (j : ℕ). not (ltb j stream_total)) (sym e) ∙ ap not (lt-ltb _ _ c.if-i-ge-STREAM_TOTAL.false),
           );
-      fits = record { within = omega (arith, c.if-i-ge-STREAM_TOTAL.false); numbered = omega arith };
+      fits = omega (arith, c.if-i-ge-STREAM_TOTAL.false);
     }

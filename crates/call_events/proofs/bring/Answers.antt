@@ -1,5 +1,4 @@
 -- By the kind of the record, as the definition of the call has it.
-use native.Mathlib.Omega.{arith}
 use Rattle.table_image.specs.Layout.{table_of}
 use Rattle.call_events.proofs.Laws.{not-read}
 use Rattle.call_events.proofs.bring.Goals as goal
@@ -29,5 +28,5 @@ returns-in_default c =
       comes =
           not-read (table_of c.args.img.now) c.args.r.now c.args.q arm.not-CallArrives arm.not-PeerAccepted arm.not-PeerGone arm.not-CallWithdrawn
           arm.not-PeerReset arm.not-ResetConfirmed c.requires.line;
-      fits = omega arith;
+      fits = tt;
     }

@@ -1,5 +1,4 @@
 -- A stream that is not open is refusal 2; what is brought to an open one is for its row to say.
-use native.Mathlib.Omega.{arith}
 use mathlib.Core.Path.{sym, ap, ◌∙◌}
 use mathlib.Core.Bool.{not}
 use Rattle.ledger.specs.Choice.{◌⇒◌∣◌}
@@ -10,11 +9,11 @@ use Rattle.call_events.proofs.named.Goals as goal
 
 pub returns-then-not-is_open : goal.returns-then-not-is_open
 unfolding of_open ◌⇒◌∣◌
-returns-then-not-is_open c = λ r. record { comes = rw (ap not (sym c.is_open.ensures ∙ c.if-not-is_open.true)); fits = omega arith }
+returns-then-not-is_open c = λ r. record { comes = rw (ap not (sym c.is_open.ensures ∙ c.if-not-is_open.true)); fits = tt }
 
 pub returns : goal.returns
 unfolding of_open ◌⇒◌∣◌
 returns c =
     let found = c.is_open.ensures in
     let within = open_within (table_of c.args.img.now) c.requires.shaped c.args.i (sym found ∙ c.if-not-is_open.false) in
-    λ r. record { comes = rw (ap not (sym found ∙ c.if-not-is_open.false)); fits = record { within = within; numbered = omega arith } }
+    λ r. record { comes = rw (ap not (sym found ∙ c.if-not-is_open.false)); fits = within }

@@ -21,7 +21,7 @@ returns-then-f-gt-MOST_DATA c =
     let a = c.args in
     let img = a.img.now in
     let room = a.room.now in
-    where_true img room _ _ (lt-ltb _ _ c.if-f-gt-MOST_DATA.true) (leaves_refused img room (table_of img) over_long _ (omega arith) c.refusing.ensures)
+    where_true img room _ _ (lt-ltb _ _ c.if-f-gt-MOST_DATA.true) (leaves_refused img room (table_of img) over_long _ (omega arith) refl)
 
 pub returns-then-not-knows : goal.returns-then-not-knows
 unfolding frames
@@ -31,7 +31,7 @@ returns-then-not-knows c =
     let room = a.room.now in
     where_false img room _ _ (le-ltb _ _ c.if-f-gt-MOST_DATA.false)
     (where_true img room _ _ (ap not (sym c.knows.ensures ∙ c.if-not-knows.true))
-    (leaves_refused img room (table_of img) nobody_there _ (omega arith) c.refusing-then-not-knows.ensures))
+    (leaves_refused img room (table_of img) nobody_there _ (omega arith) refl))
 
 pub returns-then-not-is_called : goal.returns-then-not-is_called
 unfolding frames
@@ -59,4 +59,4 @@ returns c =
     where_false img room _ _ (le-ltb _ _ c.if-f-gt-MOST_DATA.false)
     (where_false img room _ _ (ap not (sym c.knows.ensures ∙ c.if-not-knows.false))
     (leaves_served img room t (indications r f (shown_to state_rows t r f)) _ img _
-    (wrote_as (ap (λ (l : List ℕ). all_bytes (indications r f l)) some) (wrote_of c.put_indications.ensures)) (sym c.requires.lent.same)))
+    (wrote_as (ap (λ (l : List ℕ). all_bytes (indications r f l)) some) (wrote_of c.put_indications-written.ensures)) (sym c.requires.lent.same)))

@@ -12,20 +12,20 @@ use Rattle.call_openings.proofs.add_ppa.Goals as goal
 
 pub returns-then-remembers : goal.returns-then-remembers
 unfolding adds_ppa leaving ◌⇒◌∣◌
-returns-then-remembers c = λ room. simp (← c.remembers.ensures, c.if-remembers.true, c.refusing.ensures)
+returns-then-remembers c = λ room. simp (← c.remembers.ensures, c.if-remembers.true)
 
 pub returns-then-ppa_total-ge-MOST_PPAS : goal.returns-then-ppa_total-ge-MOST_PPAS
 unfolding adds_ppa leaving ◌⇒◌∣◌
 returns-then-ppa_total-ge-MOST_PPAS c =
     let ninth = le-leb _ _ c.if-ppa_total-ge-MOST_PPAS.true in
-    λ room. simp (← c.remembers.ensures, c.if-remembers.false, ← c.ppa_total.ensures, ninth, c.refusing-then-ppa_total-ge-MOST_PPAS.ensures)
+    λ room. simp (← c.remembers.ensures, c.if-remembers.false, ← c.ppa_total.ensures, ninth)
 
 pub returns-then-knows : goal.returns-then-knows
 unfolding adds_ppa leaving ◌⇒◌∣◌
 returns-then-knows c =
     let few = lt-leb _ _ c.if-ppa_total-ge-MOST_PPAS.false in
     let known = c.knows.ensures in
-    λ room. simp (← c.remembers.ensures, c.if-remembers.false, ← c.ppa_total.ensures, few, ← known, c.if-knows.true, c.refusing-then-knows.ensures)
+    λ room. simp (← c.remembers.ensures, c.if-remembers.false, ← c.ppa_total.ensures, few, ← known, c.if-knows.true)
 
 pub returns : goal.returns
 unfolding adds_ppa ◌⇒◌∣◌

@@ -13,7 +13,7 @@ use Rattle.call_openings.proofs.close_stream.Goals as goal
 
 pub returns-then-not-is_open : goal.returns-then-not-is_open
 unfolding of_open leaving ◌⇒◌∣◌
-returns-then-not-is_open c = simp (← c.is_open.ensures, c.if-not-is_open.true, c.refusing.ensures)
+returns-then-not-is_open c = simp (← c.is_open.ensures, c.if-not-is_open.true)
 
 pub put_goodbyes-written-requires : goal.put_goodbyes-written-requires
 put_goodbyes-written-requires c =

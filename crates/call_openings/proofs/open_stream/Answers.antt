@@ -16,7 +16,7 @@ unfolding opens leaving ◌⇒◌∣◌
 returns-then-free_total-eq0 c =
     let f = c.free_total in
     let t = table_of c.args.img.now in
-    λ room. simp (le-ltb (lowest_free t) stream_total (none_free t c.requires.lent.shaped f.result f.ensures c.if-free_total-eq0.true), c.refusing.ensures)
+    λ room. simp (le-ltb (lowest_free t) stream_total (none_free t c.requires.lent.shaped f.result f.ensures c.if-free_total-eq0.true))
 
 pub open_slot-requires : goal.open_slot-requires
 open_slot-requires c =
@@ -30,8 +30,8 @@ open_slot-requires c =
       shut = c.requires.shut n.result (free-shut t c.requires.lent.shaped n.result n.ensures within);
     }
 
-pub overflow_mul-result : goal.overflow_mul-result
-overflow_mul-result c =
+pub overflow_cast-result : goal.overflow_cast-result
+overflow_cast-result c =
     let n = c.lowest_free-i in
     let f = c.free_total in
     omega (arith, n.ensures, some-free (table_of c.args.img.now) c.requires.lent.shaped f.result f.ensures c.if-free_total-eq0.false)

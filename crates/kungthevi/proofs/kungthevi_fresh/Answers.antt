@@ -7,7 +7,7 @@ use Rattle.kungthevi.proofs.kungthevi_fresh.Goals as goal
 
 pub returns-then-table-ne-IMAGE_SIZE : goal.returns-then-table-ne-IMAGE_SIZE
 unfolding fresh_of ◌⇒◌∣◌
-returns-then-table-ne-IMAGE_SIZE c = rw (ne_eqb _ _ c.if-table-ne-IMAGE_SIZE.true)
+returns-then-table-ne-IMAGE_SIZE c = rw (ne_eqb _ _ c.if-table-ne-IMAGE_SIZE.true, c.from.ensures, c.number.ensures)
 
 pub returns : goal.returns
 unfolding fresh_of ◌⇒◌∣◌
