@@ -1,7 +1,8 @@
 // What is decided of a call, and what the call comes to: see specs/.
 #![tactic(auto)]
 
-ghost use Rattle.std.specs.Prelude.{◌≡◌};
+ghost use Rattle.std.specs.Prelude.{◌≡◌, ltb};
+ghost use Rattle.call_outcomes.specs.Leaving.{refusal_in};
 ghost use Rattle.call_outcomes.specs.Answering.{refusal_number, call_number};
 ghost use Rattle.call_outcomes.specs.Deciding.{doing};
 
@@ -75,6 +76,13 @@ pub fn call_number(answer: Result<Served, Refusal>) -> u32
         Ok(Served::Opened(token)) => u32::from(token) * 16777216,
         Err(refusal) => u32::from(refusal.number()) * 65536,
     }
+}
+
+// A call was refused, as its number tells.
+pub fn is_refused(answer: Result<Served, Refusal>) -> bool
+    ensures { result ≡ ltb 0 (refusal_in (call_number answer)) }
+{
+    answer.is_err()
 }
 
 // What is decided of what comes to a stream, before anything is written: an effect on that stream, where the carrier carries.

@@ -12,8 +12,7 @@ fn one_call(table: &mut [u8], bytes: &[u8], room: &mut [u8]) -> bool
     requires { CallRoom table.old room.old }
     ensures { Called table.old bytes.now table.new result }
 {
-    let answer = call_engine::call_sound(table, bytes, room);
-    0 < answer / 65536 % 256
+    call_outcomes::is_refused(call_engine::call_sound(table, bytes, room))
 }
 
 // Reading goes on behind the record; where its size is 0, it ends.

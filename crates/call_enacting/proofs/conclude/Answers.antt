@@ -1,5 +1,4 @@
 -- A refusal is a number and no more; an effect is enacted as its definition says.
-use native.Mathlib.Omega.{arith}
 use mathlib.Core.Path.{refl, subst}
 use Rattle.table_image.specs.Layout.{table_of}
 use Rattle.call_outcomes.specs.Deciding.{Enactable}

@@ -1,7 +1,5 @@
 -- An image that is not sound is refusal 16 whatever the record is; on a sound one the call is that on a sound table.
-use Prim.Native.Nat.{ℕ}
-use mathlib.Core.Path.{sym, ap, ◌∙◌}
-use Rattle.call_outcomes.specs.Leaving.{left}
+use mathlib.Core.Path.{sym, ◌∙◌}
 use Rattle.call_outcomes.proofs.Laws.{unsound_gives_sixteen}
 use Rattle.call_engine.proofs.call.Goals as goal
 
