@@ -33,7 +33,7 @@ fn is_for(s: Stream, f: Frame) -> bool
     if s.sap != f.sap {
         return false;
     }
-    paper::length_of(paper::form_of(s.sap)) == paper::length_of(form)
+    Form::of_sap(s.sap).length() == form.length()
 }
 
 // The stream is open, and the frame is for it. The SAP is asked first: it is another for most.
@@ -54,7 +54,7 @@ fn is_shown(img: &[u8], i: usize, f: Frame) -> bool
 fn block_in(r: &[u8], form: Form) -> [u8; BLOCK_SIZE]
     ensures { result ≡ block_of r.now form }
 {
-    let length = paper::length_of(form);
+    let length = form.length();
     wire_replies::unitdata_block(
         form,
         octets::part_at(r, 6, length),
@@ -71,7 +71,7 @@ fn put_if_shown(img: &[u8], room: &mut [u8], i: usize, r: &[u8], f: Frame, block
     if !is_shown(img, i, f) {
         return 0;
     }
-    let size = 24 + 2 * paper::length_of(form);
+    let size = 24 + 2 * form.length();
     wire_replies::put_indication(
         room,
         i as u8,

@@ -75,10 +75,10 @@ fn put_goodbyes(img: &[u8], room: &mut [u8], i: u8) -> usize
     ensures { WroteMost most_goodbyes (all_bytes (goodbyes i (slot (table_of img.now) i))) 0 result room.old room.new }
 {
     let state = table_image::state_at(img, i as usize);
-    if paper::number_of(state) == 9 {
+    if state.number() == 9 {
         return put_drops(img, room, i);
     }
-    if paper::is_calling(state) {
+    if state.is_calling() {
         return wire_replies::put_order(room, i, LineOrder::Disconnect(Correlation(0), 0));
     }
     0

@@ -1,6 +1,5 @@
 // What C is told of a number: whether a bind can take it, in which form, or which exclusion holds.
 ghost use Rattle.std.specs.Prelude.{◌≡◌};
-ghost use Rattle.paper.specs.Replies.{sap_length};
 ghost use Rattle.paper.specs.Exclusions.{ground_number, place_number, telling_of, sap_telling};
 
 use paper::{Exclusion, Ground, Place};
@@ -25,16 +24,6 @@ fn place_number(place: Place) -> u8
     }
 }
 
-// How many bytes it takes in an address: one of a SAP, two of a type.
-fn sap_length(n: u32) -> u32
-    ensures { result ≡ sap_length n }
-{
-    if n < 256 {
-        return 1;
-    }
-    2
-}
-
 fn telling_of(n: u32, by: Option<Exclusion>) -> u32
     ensures { result ≡ telling_of n by }
 {
@@ -44,7 +33,7 @@ fn telling_of(n: u32, by: Option<Exclusion>) -> u32
             let place = x.place;
             ground_number(ground) as u32 * 256 + place_number(place) as u32 * 65536
         }
-        None => sap_length(n),
+        None => paper::sap_length(n),
     }
 }
 

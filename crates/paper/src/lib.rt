@@ -5,12 +5,8 @@ mod addresses;
 mod kinds;
 mod states;
 
-ghost use Rattle.std.specs.Prelude.{◌≡◌};
-ghost use Rattle.paper.specs.Base.{number_of, state_of, header_number};
-
-pub use addresses::{form_in, form_of, length_of, sap_at};
+pub use addresses::{sap_at, sap_length};
 pub use kinds::{is_message, size_out};
-pub use states::{holds_binding, is_calling, is_connection, is_joined, tells_binding};
 
 // The sizes that the paper names: a table's streams and PPAs, a MAC, the most open indications of a stream and of a table, the
 // room that a call needs, and a frame's.
@@ -86,54 +82,6 @@ pub enum State {
     DataXfer,
     UserResetPending,
     ProvResetPending,
-}
-
-// A state's number in the manual's state table.
-pub fn number_of(q: State) -> u8
-    ensures { result ≡ number_of q }
-{
-    match q {
-        State::Unattached => 0,
-        State::Unbound => 3,
-        State::Idle => 6,
-        State::OutconPending => 8,
-        State::InconPending => 9,
-        State::DataXfer => 11,
-        State::UserResetPending => 12,
-        State::ProvResetPending => 13,
-    }
-}
-
-// The state with a number: Unattached for a number that is no state's.
-pub fn state_of(n: u8) -> State
-    ensures { result ≡ state_of n }
-{
-    match n {
-        3 => State::Unbound,
-        6 => State::Idle,
-        8 => State::OutconPending,
-        9 => State::InconPending,
-        11 => State::DataXfer,
-        12 => State::UserResetPending,
-        13 => State::ProvResetPending,
-        _ => State::Unattached,
-    }
-}
-
-// A state's number in the public DLPI header.
-pub fn header_number(q: State) -> u8
-    ensures { result ≡ header_number (number_of q) }
-{
-    match q {
-        State::Unattached => 4,
-        State::Unbound => 0,
-        State::Idle => 3,
-        State::OutconPending => 8,
-        State::InconPending => 9,
-        State::DataXfer => 11,
-        State::UserResetPending => 12,
-        State::ProvResetPending => 13,
-    }
 }
 
 // On which ground no bind can take a number.

@@ -13,7 +13,7 @@ use paper::{Change, Correlation, Effect, Event, LineOrder, PpaNumber, Reply, Rul
 fn next(x: StateRow) -> State
     ensures { result ≡ next x }
 {
-    paper::state_of(x.to)
+    State::of_number(x.to)
 }
 
 // It goes to the row's next state.
@@ -43,7 +43,7 @@ fn more(x: StateRow, s: Stream, n: Correlation) -> Change
 fn less(x: StateRow, s: Stream, n: Correlation) -> Change
     ensures { result ≡ less x s n }
 {
-    Change::Loses(paper_rules::settled(next(x), s), n, paper::state_of(x.last))
+    Change::Loses(paper_rules::settled(next(x), s), n, State::of_number(x.last))
 }
 
 // Bound.
@@ -161,8 +161,7 @@ fn effect_of(x: StateRow, k: Token, s: Stream, v: Service) -> Effect
         }
         Service::Disconnect(reason) => {
             let order = Some(LineOrder::Disconnect(no_number(), reason));
-            let q = s.state;
-            acting(onward(x, s), order, paper::is_joined(q), ok(x))
+            acting(onward(x, s), order, s.state.is_joined(), ok(x))
         }
         // r, no reply; s
         Service::Reset => {
@@ -198,7 +197,7 @@ pub fn event_effect(x: StateRow, s: Stream, event: Event) -> Effect
         }
         // D: F except from 8, DISCONNECT_IND, correlation 0
         Event::Gone(reason) => {
-            let flush = paper_rules::state_number(s) != 8;
+            let flush = s.state.number() != 8;
             let up = Some(Reply::DisconnectInd(reason, no_number()));
             acting(onward(x, s), None, flush, up)
         }

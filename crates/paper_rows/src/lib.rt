@@ -160,8 +160,7 @@ fn row_in(x: StateRow, state: u8, mode: u8) -> Option<StateRow>
 fn row_along(s: Stream, cause: u8, course: Course) -> Option<StateRow>
     ensures { result ≡ along course (number s) s.mode cause }
 {
-    let q = s.state;
-    let state = paper::number_of(q);
+    let state = s.state.number();
     match course {
         Course::Leads(mode, from, to) => {
             let x = StateRow {
@@ -189,16 +188,14 @@ fn row_along(s: Stream, cause: u8, course: Course) -> Option<StateRow>
 pub fn request_row(s: Stream, q: Request) -> Option<StateRow>
     ensures { result ≡ found state_rows s (request_asks q).cause }
 {
-    let state = s.state;
-    let course = request_course(paper::number_of(state), s.mode, q);
+    let course = request_course(s.state.number(), s.mode, q);
     row_along(s, code_of(q), course)
 }
 
 pub fn event_row(s: Stream, event: Event) -> Option<StateRow>
     ensures { result ≡ found state_rows s (letter_of event) }
 {
-    let state = s.state;
-    let course = event_course(paper::number_of(state), event);
+    let course = event_course(s.state.number(), event);
     row_along(s, letter_of(event), course)
 }
 
@@ -206,6 +203,5 @@ pub fn event_row(s: Stream, event: Event) -> Option<StateRow>
 pub fn takes_frames(s: Stream) -> bool
     ensures { result ≡ is_found (found state_rows s frame_arrives) }
 {
-    let state = s.state;
-    paper::number_of(state) == 6 && s.mode == 2
+    s.state.number() == 6 && s.mode == 2
 }

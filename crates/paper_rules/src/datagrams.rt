@@ -19,8 +19,8 @@ fn could_be_bound(form: Form, sap: u16) -> bool
 pub fn judge_datagram(s: Stream, u: UnitdataRequest) -> Result<Service, Rule>
     ensures { result ≡ judge_datagram s u }
 {
-    let form = paper::form_of(s.sap);
-    if u.length as usize != paper::length_of(form) {
+    let form = Form::of_sap(s.sap);
+    if u.length as usize != form.length() {
         return Err(Rule::DatagramLength);
     }
     let at = u.offset;

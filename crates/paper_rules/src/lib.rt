@@ -16,4 +16,4 @@ pub use order::{
     judge_accept, judge_attach, judge_bind, judge_connect, judge_disconnect, without_row,
 };
 pub use saps::as_bind_allows;
-pub use streams::{attached_in, settled, state_number};
+pub use streams::{attached_in, settled};

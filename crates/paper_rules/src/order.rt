@@ -6,7 +6,6 @@ ghost use Rattle.paper.specs.ErrorOrder.{judge_attach, judge_listening, judge_bi
 ghost use Rattle.paper_rules.specs.Keepable.{Keepable};
 
 use crate::saps::{grant_of, is_sap_or_type, is_type};
-use crate::streams::state_number;
 use paper::{ADDRESS_SIZE, BindRequest, Carrier, ConnectRequest, ConnectResponse, Correlation, DisconnectRequest, PpaNumber, Request, Rule, Service, Stream};
 
 // 2. No state row. Of a datagram it is a rule of its own.
@@ -116,7 +115,7 @@ pub fn judge_connect(c: ConnectRequest) -> Result<Service, Rule>
 fn judge_other(s: Stream, n: Correlation, x: Stream) -> Result<Service, Rule>
     ensures { result ≡ judge_other s n x }
 {
-    if state_number(x) != 6 {
+    if x.state.number() != 6 {
         return Err(Rule::CarrierNotIdle);
     }
     if x.ppa.0 != s.ppa.0 {
@@ -183,7 +182,7 @@ fn judge_denial(d: DisconnectRequest, is_open: bool) -> Result<Service, Rule>
 pub fn judge_disconnect(s: Stream, d: DisconnectRequest, is_open: bool) -> Result<Service, Rule>
     ensures { result ≡ judge_disconnect s d is_open }
 {
-    if state_number(s) == 9 {
+    if s.state.number() == 9 {
         return judge_denial(d, is_open);
     }
     if d.correlation.0 != 0 {

@@ -1,15 +1,8 @@
 // A stream by value, as it stands after a row.
 ghost use Rattle.std.specs.Prelude.{◌≡◌};
-ghost use Rattle.paper.specs.Base.{number, no_stream, attached_in, in_state, settled};
+ghost use Rattle.paper.specs.Base.{no_stream, attached_in, in_state, settled};
 
 use paper::{PpaNumber, State, Stream};
-
-pub fn state_number(s: Stream) -> u8
-    ensures { result ≡ number s }
-{
-    let q = s.state;
-    paper::number_of(q)
-}
 
 // A stream that holds nothing.
 fn no_stream() -> Stream
@@ -55,10 +48,10 @@ fn in_state(q: State, s: Stream) -> Stream
 pub fn settled(q: State, s: Stream) -> Stream
     ensures { result ≡ settled q s }
 {
-    if paper::number_of(q) == 0 {
+    if q.number() == 0 {
         return no_stream();
     }
-    if paper::holds_binding(q) {
+    if q.holds_binding() {
         return in_state(q, s);
     }
     let p = s.ppa;

@@ -54,7 +54,7 @@ fn stream_from(c: &[u8]) -> Stream
     requires { length c.now ≡ slot_size }
     ensures { result ≡ stream_from c.now }
 {
-    let state = paper::state_of(c[STATE_OFFSET]);
+    let state = State::of_number(c[STATE_OFFSET]);
     let sap = octets::number16_inside(c, SAP_OFFSET);
     let ppa = PpaNumber(octets::number32_inside(c, ATTACHED_OFFSET));
     Stream {
@@ -80,7 +80,7 @@ pub fn state_at(img: &[u8], i: usize) -> State
     requires { At i img.now }
     ensures { result ≡ (stream (table_of img.now) i).state }
 {
-    paper::state_of(img[i * SLOT_SIZE + SLOTS_OFFSET + STATE_OFFSET])
+    State::of_number(img[i * SLOT_SIZE + SLOTS_OFFSET + STATE_OFFSET])
 }
 
 pub fn granted_at(img: &[u8], i: usize) -> u8
@@ -116,11 +116,9 @@ pub fn count_at(img: &[u8], i: usize) -> u8
 pub fn stream_bytes(s: Stream) -> [u8; COUNT_OFFSET]
     ensures { result ≡ stream_bytes s }
 {
-    let state = s.state;
-    let n = paper::number_of(state);
     let p = s.ppa.0;
     [
-        n,
+        s.state.number(),
         s.mode,
         (s.sap / 256) as u8,
         (s.sap % 256) as u8,

@@ -11,7 +11,7 @@ ghost use Rattle.table_soundness.specs.Groups.{is_attached_right, is_bound_right
 ghost use Rattle.paper.specs.Correlations.{most_numbers};
 ghost use Rattle.ledger.specs.Few.{Few};
 
-use paper::{MOST_NUMBERS, MOST_OPEN, MOST_PPAS, PpaNumber, STREAM_TOTAL, Stream};
+use paper::{MOST_NUMBERS, MOST_OPEN, MOST_PPAS, PpaNumber, STREAM_TOTAL, State, Stream};
 use table_image::{
     COUNT_OFFSET, IMAGE_SIZE, MEMORY_OFFSET, NUMBERS_OFFSET, PLACE_SIZE, PLACES_OFFSET,
     PPA_COUNT_OFFSET, SLOT_SIZE, SLOTS_OFFSET, STATE_OFFSET,
@@ -23,8 +23,7 @@ use table_image::{
 fn is_state(n: u8) -> bool
     ensures { result ≡ is_state n }
 {
-    let q = paper::state_of(n);
-    paper::number_of(q) == n
+    State::of_number(n).number() == n
 }
 
 // The bytes of a slot: at most 8 open numbers, zeros behind them.
@@ -136,9 +135,8 @@ fn is_attached_right(img: &[u8], s: Stream) -> bool
     requires { Lent img.now }
     ensures { result ≡ is_attached_right (ppa_numbers (table_of img.now)) s }
 {
-    let q = s.state;
     let p = s.ppa;
-    if paper::number_of(q) == 0 {
+    if s.state.number() == 0 {
         return p.0 == 0;
     }
     table_lookup::knows(img, p)
@@ -160,14 +158,13 @@ fn is_unbound(s: Stream) -> bool
 fn is_bound_right(s: Stream) -> bool
     ensures { result ≡ is_bound_right s }
 {
-    let q = s.state;
-    if !paper::holds_binding(q) {
+    if !s.state.holds_binding() {
         return is_unbound(s);
     }
     if !paper_rules::as_bind_allows(s) {
         return false;
     }
-    if paper::is_connection(q) {
+    if s.state.is_connection() {
         return s.mode == 1;
     }
     true
@@ -177,8 +174,7 @@ fn is_bound_right(s: Stream) -> bool
 fn is_count_right(s: Stream, count: u8) -> bool
     ensures { result ≡ is_count_right s count }
 {
-    let q = s.state;
-    if paper::number_of(q) != 9 {
+    if s.state.number() != 9 {
         return count == 0;
     }
     if count == 0 {

@@ -9,7 +9,7 @@ ghost use Rattle.paper.specs.Messages.{code_in, other_code, primitive_of, sized,
 ghost use Rattle.paper.specs.declared.Primitive.TheVariants as primitive;
 ghost use Rattle.wire_messages.specs.Whole.{Whole};
 
-use paper::{ADDRESS_SIZE, BindRequest, ConnectRequest, ConnectResponse, Correlation, DisconnectRequest, Form, MAC_SIZE, PpaNumber, Primitive, Request, Rule, Token, UnitdataRequest};
+use paper::{BindRequest, ConnectRequest, ConnectResponse, Correlation, DisconnectRequest, Form, MAC_SIZE, PpaNumber, Primitive, Request, Rule, Token, UnitdataRequest};
 
 pub fn code_in(m: &[u8]) -> u32
     requires { 4 ≤ length m.now }
@@ -133,7 +133,7 @@ fn unitdata_in(m: &[u8]) -> Result<Request, Rule>
         length,
         offset,
         size: m.len() as u8,
-        sap: paper::sap_at(m, paper::form_in(length), offset as usize + MAC_SIZE),
+        sap: paper::sap_at(m, Form::of_length(length), offset as usize + MAC_SIZE),
     };
     of_size(20, m, Request::Unitdata(asked))
 }
@@ -165,12 +165,12 @@ pub fn asked_by(m: &[u8]) -> Result<Request, Rule>
 pub fn address_at<'a>(m: &'a [u8], at: u8) -> &'a [u8]
     ensures { result.now ≡ part m.now at address_size }
 {
-    octets::part_at(m, at as usize, ADDRESS_SIZE)
+    address_in(m, at, Form::WithSap)
 }
 
 // A datagram's address, of the bytes of its form, as that part of the lent block.
 pub fn address_in<'a>(block: &'a [u8], at: u8, form: Form) -> &'a [u8]
     ensures { result.now ≡ part block.now at (length_of form) }
 {
-    octets::part_at(block, at as usize, paper::length_of(form))
+    octets::part_at(block, at as usize, form.length())
 }

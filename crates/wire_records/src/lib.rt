@@ -10,7 +10,7 @@ ghost use Rattle.paper.specs.declared.Kind.TheVariants as kind;
 
 use octets::BLOCK_SIZE;
 use paper::{
-    ADDRESS_SIZE, Correlation, DATA_SIZE, Frame, HEAD_SIZE, Input, Kind, MAC_SIZE, MESSAGE_SIZE,
+    ADDRESS_SIZE, Correlation, DATA_SIZE, Form, Frame, HEAD_SIZE, Input, Kind, MAC_SIZE, MESSAGE_SIZE,
     MOST_ADDRESS, MOST_DATA, PAIR_SIZE, PpaNumber,
 };
 
@@ -188,7 +188,7 @@ fn read_frame(r: &[u8]) -> Input
     if has_nonzero_past(r, 23, MOST_DATA, bytes) {
         return Input::Malformed;
     }
-    let form = paper::form_in(octets::wide(n));
+    let form = Form::of_length(octets::wide(n));
     let sap = paper::sap_at(r, form, 12);
     let ppa = PpaNumber(octets::number32_at(r, 1));
     Input::Frame(Frame {

@@ -48,12 +48,6 @@ pub record Indicates (block body room : List ℕ) : Type 0 where
   pub short : length body ≤ body_size
   pub roomy : pair_size ≤ length room
 
--- how many bytes a SAP takes
-pub record SapTakes (sap n : ℕ) : Type 0 where
-  pub exactly : n ≡ sap_length sap
-  pub some : 1 ≤ n
-  pub few : n ≤ 2
-
 -- a message up under a letter
 abbrev pub message_under : ℕ → ℕ → List ℕ → List ℕ
 message_under letter s content = (letter ∷ s ∷ length content ∷ []) ++ pad content

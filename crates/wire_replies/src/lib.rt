@@ -10,7 +10,7 @@ ghost use Rattle.paper.specs.RecordsIn.{message_size, data_size, pair_size};
 ghost use Rattle.paper.specs.RecordsOut.{order, up, datum, bytes_of, all_bytes, flush_if, message_bytes};
 ghost use Rattle.paper.specs.RecordsOut.{start_size, connect_size, accept_size, disconnect_size, unitdata_size};
 ghost use Rattle.paper.specs.Replies.{address_of, info_fields, info_tail, most_tail, unitdata_fields};
-ghost use Rattle.wire_replies.specs.Rooms.{Calls, Sends, Carries, InBlock, Behind, BehindInfo, Addressed, Indicates, SapTakes, message_under};
+ghost use Rattle.wire_replies.specs.Rooms.{Calls, Sends, Carries, InBlock, Behind, BehindInfo, Addressed, Indicates, message_under};
 
 use octets::BLOCK_SIZE;
 use paper::{
@@ -55,7 +55,7 @@ fn put_unitdata_start(room: &mut [u8], s: u8, form: Form) -> usize
     requires { start_size + 1 ≤ length room.old }
     ensures { Wrote (117 ∷ s ∷ length_of form ∷ []) 0 result room.old room.new }
 {
-    let size = paper::length_of(form);
+    let size = form.length();
     octets::put_bytes(room, 0, &[b'u', s, size as u8]);
     START_SIZE + 1
 }
@@ -136,26 +136,14 @@ fn put_message(room: &mut [u8], letter: u8, s: u8, fields: &[u32], tail: &[u8]) 
 fn is_told(q: Stream) -> bool
     ensures { result ≡ is_among told_states q }
 {
-    let state = q.state;
-    paper::tells_binding(state)
+    q.state.tells_binding()
 }
 
 // The stream's state by its number in the public header.
 fn shown_state(q: Stream) -> u8
     ensures { result ≡ header_number (number q) }
 {
-    let state = q.state;
-    paper::header_number(state)
-}
-
-// 1 byte of SAP or 2 of Ethernet type.
-fn sap_length(sap: u16) -> u32
-    ensures { SapTakes sap result }
-{
-    if sap < 256 {
-        return 1;
-    }
-    2
+    q.state.header_number()
 }
 
 // INFO_ACK with the five fields that differ from stream to stream.
@@ -191,7 +179,7 @@ fn put_info(room: &mut [u8], s: u8, q: Stream, tail: &[u8]) -> usize
     if !is_told(q) {
         return put_info_fields(room, s, state, 0, 0, 3, 0, tail);
     }
-    let size = sap_length(q.sap);
+    let size = paper::sap_length(q.sap as u32);
     let minus = 0xffffffff - size + 1;
     put_info_fields(
         room,
@@ -210,7 +198,7 @@ fn put_bound(room: &mut [u8], s: u8, sap: u16, granted: u8, tail: &[u8]) -> usiz
     requires { Behind tail.now room.old }
     ensures { WroteMost message_size (bytes_of (up s (Reply.BindAck sap granted) tail.now)) 0 result room.old room.new }
 {
-    let address = MAC_SIZE as u32 + sap_length(sap);
+    let address = MAC_SIZE as u32 + paper::sap_length(sap as u32);
     let most = octets::wide(granted);
     put_message(
         room,
@@ -262,7 +250,7 @@ pub fn unitdata_block(form: Form, called: &[u8], calling: &[u8]) -> [u8; BLOCK_S
     requires { Addressed form called.now calling.now }
     ensures { result ≡ pad (flat (unitdata_fields form) ++ called.now ++ calling.now) }
 {
-    let size = paper::length_of(form) as u32;
+    let size = form.length() as u32;
     let mut both = [0u8; 2 * MOST_ADDRESS];
     let end = put_addresses(&mut both, called, calling);
     octets::block_with(&[0x08, size, 24, size, 24 + size, 0], &both[0..end])

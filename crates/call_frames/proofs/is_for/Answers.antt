@@ -25,7 +25,7 @@ returns c =
       sym c.takes_frames.ensures ∙ c.if-not-takes_frames.false,
       eq-eqb _ _ c.if-s-f.false,
       eq-eqb _ _ c.if-s-f-2.false,
-      c.length_of-2.ensures,
-      c.length_of.ensures,
-      c.form_of.ensures,
+      c.length-2.ensures,
+      c.length.ensures,
+      c.of_sap.ensures,
     )

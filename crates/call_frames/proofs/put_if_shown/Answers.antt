@@ -16,15 +16,15 @@ returns-then-not-is_shown c = rw (sym c.is_shown.ensures ∙ c.if-not-is_shown.t
 
 pub overflow_mul-size : goal.overflow_mul-size
 overflow_mul-size c =
-    omega (arith, c.length_of.ensures, form_most c.args.f.form)
+    omega (arith, c.length.ensures, form_most c.args.f.form)
 
 pub overflow_add-size : goal.overflow_add-size
 overflow_add-size c =
-    omega (arith, c.length_of.ensures, form_most c.args.f.form)
+    omega (arith, c.length.ensures, form_most c.args.f.form)
 
 pub overflow_cast-size : goal.overflow_cast-size
 overflow_cast-size c =
-    omega (arith, c.length_of.ensures, form_most c.args.f.form)
+    omega (arith, c.length.ensures, form_most c.args.f.form)
 
 pub put_indication-requires : goal.put_indication-requires
 put_indication-requires c =
@@ -40,6 +40,6 @@ returns c =
     let f = c.args.f in
     rw (sym c.is_shown.ensures ∙ c.if-not-is_shown.false)
     (wrote-same
-    (one_indication r f c.requires.whole c.args.i (24 + 2 * c.length_of.result) c.args.block.now c.part_at.result.now
-    (ap (λ (n : ℕ). 24 + 2 * n) c.length_of.ensures) c.requires.built c.part_at.ensures)
+    (one_indication r f c.requires.whole c.args.i (24 + 2 * c.length.result) c.args.block.now c.part_at.result.now
+    (ap (λ (n : ℕ). 24 + 2 * n) c.length.ensures) c.requires.built c.part_at.ensures)
     c.put_indication.ensures)

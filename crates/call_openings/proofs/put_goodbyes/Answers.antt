@@ -12,11 +12,11 @@ use Rattle.paper.proofs.RecordsOut.{one_wrote}
 use Rattle.octets.proofs.Writing.{wrote-more}
 use Rattle.call_openings.proofs.put_goodbyes.Goals as goal
 
-pub returns-then-number_of-eq9 : goal.returns-then-number_of-eq9
+pub returns-then-number-eq9 : goal.returns-then-number-eq9
 unfolding goodbyes ◌⇒◌∣◌
-returns-then-number_of-eq9 c =
+returns-then-number-eq9 c =
     let s = c.state_at-state in
-    let in9 : eqb (number_of s.result) 9 ≡ true = eq-eqb _ 9 (sym c.number_of.ensures ∙ c.if-number_of-eq9.true) in
+    let in9 : eqb (number_of s.result) 9 ≡ true = eq-eqb _ 9 (sym c.number.ensures ∙ c.if-number-eq9.true) in
     rw (← s.ensures, in9) c.put_drops.ensures
 
 pub returns-then-is_calling : goal.returns-then-is_calling
@@ -25,7 +25,7 @@ returns-then-is_calling c =
     let e = c.put_order.ensures in
     let s = c.state_at-state in
     let a = c.args in
-    let in9 : eqb (number_of s.result) 9 ≡ false = ne_eqb _ 9 (λ z. c.if-number_of-eq9.false (c.number_of.ensures ∙ z)) in
+    let in9 : eqb (number_of s.result) 9 ≡ false = ne_eqb _ 9 (λ z. c.if-number-eq9.false (c.number.ensures ∙ z)) in
     let calling : has (number_of s.result) calling_states ≡ true = sym c.is_calling.ensures ∙ c.if-is_calling.true in
     let bye = goodbye a.i 0 in
     rw (← s.ensures, in9, calling) (wrote-more (omega arith) (one_wrote bye bye refl e))
@@ -34,6 +34,6 @@ pub returns : goal.returns
 unfolding goodbyes ◌⇒◌∣◌
 returns c =
     let s = c.state_at-state in
-    let in9 : eqb (number_of s.result) 9 ≡ false = ne_eqb _ 9 (λ z. c.if-number_of-eq9.false (c.number_of.ensures ∙ z)) in
+    let in9 : eqb (number_of s.result) 9 ≡ false = ne_eqb _ 9 (λ z. c.if-number-eq9.false (c.number.ensures ∙ z)) in
     let calling : has (number_of s.result) calling_states ≡ false = sym c.is_calling.ensures ∙ c.if-is_calling.false in
     rw (← s.ensures, in9, calling) (record { few = omega arith; ends = refl; stands = refl })

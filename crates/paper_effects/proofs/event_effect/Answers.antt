@@ -18,7 +18,7 @@ returns-in-Gone c =
       c.acting-in-Gone.ensures,
       c.onward-in-Gone.ensures,
       c.no_number.ensures,
-      c.state_number-flush.ensures,
+      c.number-flush.ensures,
     )
 
 pub returns-in-Withdrawn : goal.returns-in-Withdrawn

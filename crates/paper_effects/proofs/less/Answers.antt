@@ -2,4 +2,4 @@
 use Rattle.paper_effects.proofs.less.Goals as goal
 
 pub returns : goal.returns
-returns c = rw (c.state_of.ensures, c.settled.ensures, c.next.ensures)
+returns c = rw (c.of_number.ensures, c.settled.ensures, c.next.ensures)

@@ -6,4 +6,4 @@ use Rattle.paper_rows.proofs.event_row.Goals as goal
 pub returns : goal.returns
 unfolding found
 returns c =
-    c.row_along.ensures ∙ rw (c.letter_of.ensures, ← c.number_of.ensures) (c.event_course-course.ensures _)
+    c.row_along.ensures ∙ rw (c.letter_of.ensures, ← c.number.ensures) (c.event_course-course.ensures _)

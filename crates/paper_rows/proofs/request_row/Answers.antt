@@ -6,4 +6,4 @@ use Rattle.paper_rows.proofs.request_row.Goals as goal
 pub returns : goal.returns
 unfolding found
 returns c =
-    c.row_along.ensures ∙ rw (c.code_of.ensures, ← c.number_of.ensures) c.request_course-course.ensures
+    c.row_along.ensures ∙ rw (c.code_of.ensures, ← c.number.ensures) c.request_course-course.ensures

@@ -4,8 +4,8 @@ use Rattle.paper_rows.proofs.row_along.Goals as goal
 
 pub returns-in-Leads : goal.returns-in-Leads
 returns-in-Leads c =
-    c.row_in.ensures ∙ rw (c.in-Leads.is, ← c.number_of-state.ensures)
+    c.row_in.ensures ∙ rw (c.in-Leads.is, ← c.number-state.ensures)
 
 pub returns-in-Loses : goal.returns-in-Loses
 returns-in-Loses c =
-    c.row_in-in-Loses.ensures ∙ rw (c.in-Loses.is, ← c.number_of-state.ensures)
+    c.row_in-in-Loses.ensures ∙ rw (c.in-Loses.is, ← c.number-state.ensures)

@@ -14,4 +14,4 @@ returns c =
     let img = c.args.img.now in
     let i = c.args.i in
     let byte = part_byte img (slot_base i) slot_size state_offset (slot_base i + state_offset) (omega arith) refl in
-    c.state_of.ensures ∙ sym (ap (λ (x : Slot). x.stream.state) (slot-at img i c.requires.within) ∙ ap state_of byte)
+    c.of_number.ensures ∙ sym (ap (λ (x : Slot). x.stream.state) (slot-at img i c.requires.within) ∙ ap state_of byte)

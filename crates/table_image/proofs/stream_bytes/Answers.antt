@@ -4,4 +4,4 @@ use Rattle.table_image.proofs.stream_bytes.Goals as goal
 
 pub returns : goal.returns
 unfolding stream_bytes
-returns c = rw c.number_of-n.ensures
+returns c = rw c.number.ensures

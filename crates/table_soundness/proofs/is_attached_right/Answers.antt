@@ -4,10 +4,10 @@ use Rattle.paper.specs.Base.{knows}
 use Rattle.table_soundness.specs.Groups.{is_attached_right}
 use Rattle.table_soundness.proofs.is_attached_right.Goals as goal
 
-pub returns-then-number_of-eq0 : goal.returns-then-number_of-eq0
+pub returns-then-number-eq0 : goal.returns-then-number-eq0
 unfolding is_attached_right knows
-returns-then-number_of-eq0 c = simp (← c.number_of.ensures, eq-eqb _ _ c.if-number_of-eq0.true)
+returns-then-number-eq0 c = simp (← c.number.ensures, eq-eqb _ _ c.if-number-eq0.true)
 
 pub returns : goal.returns
 unfolding is_attached_right knows
-returns c = simp (← c.number_of.ensures, ne_eqb _ _ c.if-number_of-eq0.false) c.knows.ensures
+returns c = simp (← c.number.ensures, ne_eqb _ _ c.if-number-eq0.false) c.knows.ensures

@@ -5,4 +5,4 @@ use Rattle.table_soundness.proofs.is_state.Goals as goal
 
 pub returns : goal.returns
 unfolding is_state
-returns c = rw (c.number_of.ensures, c.state_of-q.ensures) (state-told c.args.n)
+returns c = rw (c.number.ensures, c.of_number.ensures) (state-told c.args.n)

@@ -6,7 +6,7 @@ returns c =
     rw (
       c.of_size.ensures,
       c.sap_at.ensures,
-      c.form_in.ensures,
+      c.of_length.ensures,
       c.number32_at-offset.ensures,
       c.number32_at-length.ensures,
     )

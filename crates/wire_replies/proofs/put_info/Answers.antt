@@ -37,7 +37,7 @@ returns c =
     let bound = c.is_told in
     let state = c.shown_state-state in
     let a = c.args in
-    let known : size.result ≡ sap_length a.q.sap = size.ensures.exactly in
+    let known : size.result ≡ sap_length a.q.sap = size.ensures.is in
     let minus : 4294967295 - sap_length a.q.sap + 1 ≡ 2 ^ 32 - sap_length a.q.sap = omega arith in
     let e : info_fields state.result (mac_size + size.result) (4294967295 - size.result + 1) a.q.mode 76 ≡ info_of a.q =
     simp (sym bound.ensures ∙ c.if-not-is_told.false, state.ensures, known, minus) in

@@ -23,7 +23,7 @@ both_begin : (called calling l : List ℕ) {n : ℕ} {x : List ℕ} → Wrote (c
 both_begin called calling l {n} w = over_begins (called ++ calling) l (n - 0) (wrote-over (called ++ calling) w) (omega (arith, w.ends))
 
 pub overflow_cast-size : goal.overflow_cast-size
-overflow_cast-size c = omega (arith, c.length_of-size.ensures, form_most c.args.form)
+overflow_cast-size c = omega (arith, c.length-size.ensures, form_most c.args.form)
 
 pub put_addresses-end-requires : goal.put_addresses-end-requires
 put_addresses-end-requires c =
@@ -31,7 +31,7 @@ put_addresses-end-requires c =
 
 pub overflow_add-size : goal.overflow_add-size
 overflow_add-size c =
-    omega (arith, c.length_of-size.ensures, form_most c.args.form)
+    omega (arith, c.length-size.ensures, form_most c.args.form)
 
 pub slice_bounds-block_with-end : goal.slice_bounds-block_with-end
 slice_bounds-block_with-end c =
@@ -52,5 +52,5 @@ returns c =
     let calling = a.calling.now in
     c.block_with.ensures
     ∙ ap₂ (λ (n : ℕ) (l : List ℕ). pad (flat (8 ∷ n ∷ 24 ∷ n ∷ (24 + n) ∷ 0 ∷ []) ++ l))
-    c.length_of-size.ensures
+    c.length-size.ensures
     (both_begin called calling (replicate (most_address + most_address) 0) c.put_addresses-end.ensures)

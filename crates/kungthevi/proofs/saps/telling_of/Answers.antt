@@ -8,4 +8,4 @@ returns-in-Some c = rw (c.in-Some.is, c.ground_number.ensures, c.place_number.en
 
 pub returns-in-None : goal.returns-in-None
 unfolding telling_of
-returns-in-None c = rw c.in-None.is c.sap_length.ensures
+returns-in-None c = rw c.in-None.is c.sap_length.ensures.is

@@ -5,23 +5,23 @@ use Rattle.ledger.specs.Choice.{◌⇒◌∣◌}
 use Rattle.paper.specs.Datagrams.{judge_datagram}
 use Rattle.paper_rules.proofs.datagrams.judge_datagram.Goals as goal
 
-pub returns-then-u-length_of : goal.returns-then-u-length_of
+pub returns-then-u-length : goal.returns-then-u-length
 unfolding judge_datagram ◌⇒◌∣◌
-returns-then-u-length_of c =
-    simp (← c.form_of-form.ensures, ← c.length_of.ensures, ne_eqb _ _ c.if-u-length_of.true)
+returns-then-u-length c =
+    simp (← c.of_sap-form.ensures, ← c.length.ensures, ne_eqb _ _ c.if-u-length.true)
 
 pub returns-then-at-lt20 : goal.returns-then-at-lt20
 unfolding judge_datagram ◌⇒◌∣◌
 returns-then-at-lt20 c =
-    simp (← c.form_of-form.ensures, ← c.length_of.ensures, eq-eqb _ _ c.if-u-length_of.false, lt-ltb _ _ c.if-at-lt20.true)
+    simp (← c.of_sap-form.ensures, ← c.length.ensures, eq-eqb _ _ c.if-u-length.false, lt-ltb _ _ c.if-at-lt20.true)
 
 pub returns-then-u-end : goal.returns-then-u-end
 unfolding judge_datagram ◌⇒◌∣◌
 returns-then-u-end c =
     simp (
-      ← c.form_of-form.ensures,
-      ← c.length_of.ensures,
-      eq-eqb _ _ c.if-u-length_of.false,
+      ← c.of_sap-form.ensures,
+      ← c.length.ensures,
+      eq-eqb _ _ c.if-u-length.false,
       le-ltb _ _ c.if-at-lt20.false,
       lt-ltb _ _ c.if-u-end.true,
     )
@@ -30,9 +30,9 @@ pub returns-then-not-could_be_bound : goal.returns-then-not-could_be_bound
 unfolding judge_datagram ◌⇒◌∣◌
 returns-then-not-could_be_bound c =
     simp (
-      ← c.form_of-form.ensures,
-      ← c.length_of.ensures,
-      eq-eqb _ _ c.if-u-length_of.false,
+      ← c.of_sap-form.ensures,
+      ← c.length.ensures,
+      eq-eqb _ _ c.if-u-length.false,
       le-ltb _ _ c.if-at-lt20.false,
       le-ltb _ _ c.if-u-end.false,
       ← c.could_be_bound.ensures,
@@ -43,9 +43,9 @@ pub returns : goal.returns
 unfolding judge_datagram ◌⇒◌∣◌
 returns c =
     simp (
-      ← c.form_of-form.ensures,
-      ← c.length_of.ensures,
-      eq-eqb _ _ c.if-u-length_of.false,
+      ← c.of_sap-form.ensures,
+      ← c.length.ensures,
+      eq-eqb _ _ c.if-u-length.false,
       le-ltb _ _ c.if-at-lt20.false,
       le-ltb _ _ c.if-u-end.false,
       ← c.could_be_bound.ensures,

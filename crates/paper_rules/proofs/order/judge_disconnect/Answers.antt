@@ -4,14 +4,14 @@ use Rattle.ledger.specs.Choice.{◌⇒◌∣◌}
 use Rattle.paper.specs.ErrorOrder.{judge_disconnect}
 use Rattle.paper_rules.proofs.order.judge_disconnect.Goals as goal
 
-pub returns-then-state_number-eq9 : goal.returns-then-state_number-eq9
+pub returns-then-number-eq9 : goal.returns-then-number-eq9
 unfolding judge_disconnect ◌⇒◌∣◌
-returns-then-state_number-eq9 c = simp (← c.state_number.ensures, eq-eqb _ _ c.if-state_number-eq9.true) c.judge_denial.ensures
+returns-then-number-eq9 c = simp (← c.number.ensures, eq-eqb _ _ c.if-number-eq9.true) c.judge_denial.ensures
 
 pub returns-then-d-ne0 : goal.returns-then-d-ne0
 unfolding judge_disconnect ◌⇒◌∣◌
-returns-then-d-ne0 c = simp (← c.state_number.ensures, ne_eqb _ _ c.if-state_number-eq9.false, ne_eqb _ _ c.if-d-ne0.true)
+returns-then-d-ne0 c = simp (← c.number.ensures, ne_eqb _ _ c.if-number-eq9.false, ne_eqb _ _ c.if-d-ne0.true)
 
 pub returns : goal.returns
 unfolding judge_disconnect ◌⇒◌∣◌
-returns c = simp (← c.state_number.ensures, ne_eqb _ _ c.if-state_number-eq9.false, eq-eqb _ _ c.if-d-ne0.false)
+returns c = simp (← c.number.ensures, ne_eqb _ _ c.if-number-eq9.false, eq-eqb _ _ c.if-d-ne0.false)

@@ -7,17 +7,17 @@ use mathlib.Core.Path.{refl, sym, ap, ◌∙◌}
 use Rattle.paper.proofs.StateNumbers.{settled_by}
 use Rattle.paper_rules.proofs.streams.settled.Goals as goal
 
-pub returns-then-number_of-eq0 : goal.returns-then-number_of-eq0
-returns-then-number_of-eq0 c =
+pub returns-then-number-eq0 : goal.returns-then-number-eq0
+returns-then-number-eq0 c =
     let a = c.args in
-    c.no_stream.ensures ∙ settled_by a.q a.s true _ (ap (λ (n : ℕ). eqb n 0) (sym c.number_of.ensures) ∙ eq-eqb _ _ c.if-number_of-eq0.true) refl
+    c.no_stream.ensures ∙ settled_by a.q a.s true _ (ap (λ (n : ℕ). eqb n 0) (sym c.number.ensures) ∙ eq-eqb _ _ c.if-number-eq0.true) refl
 
 pub returns-then-holds_binding : goal.returns-then-holds_binding
 returns-then-holds_binding c =
     let a = c.args in
     c.in_state.ensures
     ∙ settled_by a.q a.s false true
-    (ap (λ (n : ℕ). eqb n 0) (sym c.number_of.ensures) ∙ ne_eqb _ _ c.if-number_of-eq0.false)
+    (ap (λ (n : ℕ). eqb n 0) (sym c.number.ensures) ∙ ne_eqb _ _ c.if-number-eq0.false)
     (sym c.holds_binding.ensures ∙ c.if-holds_binding.true)
 
 pub returns : goal.returns
@@ -25,5 +25,5 @@ returns c =
     let a = c.args in
     c.attached_in.ensures
     ∙ settled_by a.q a.s false false
-    (ap (λ (n : ℕ). eqb n 0) (sym c.number_of.ensures) ∙ ne_eqb _ _ c.if-number_of-eq0.false)
+    (ap (λ (n : ℕ). eqb n 0) (sym c.number.ensures) ∙ ne_eqb _ _ c.if-number-eq0.false)
     (sym c.holds_binding.ensures ∙ c.if-holds_binding.false)

@@ -1,7 +1,7 @@
 -- A number under 256 is one byte.
 use borrow.Author.Tests.{lt-ltb, le-ltb}
 use Rattle.paper.specs.Base.{form_of}
-use Rattle.paper.proofs.addresses.form_of.Goals as goal
+use Rattle.paper.proofs.Form.of_sap.Goals as goal
 
 pub returns-then-sap-lt256 : goal.returns-then-sap-lt256
 unfolding form_of

@@ -1,7 +1,7 @@
 -- With the state known, so is its number in the manual's table, and for that number document 02's list is computed.
 use Rattle.ledger.specs.Choice.{◌⇒◌∣◌}
 use Rattle.paper.specs.Base.{header_number}
-use Rattle.paper.proofs.header_number.Goals as goal
+use Rattle.paper.proofs.State.header_number.Goals as goal
 
 pub returns-in-Unattached : goal.returns-in-Unattached
 unfolding header_number ◌⇒◌∣◌

@@ -2,7 +2,7 @@
 use borrow.Author.Tests.{ne_eqb}
 use Rattle.ledger.specs.Choice.{◌⇒◌∣◌}
 use Rattle.paper.specs.Base.{state_of}
-use Rattle.paper.proofs.state_of.Goals as goal
+use Rattle.paper.proofs.State.of_number.Goals as goal
 
 pub returns-in-3 : goal.returns-in-3
 unfolding state_of ◌⇒◌∣◌

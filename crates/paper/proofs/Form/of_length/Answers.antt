@@ -1,7 +1,7 @@
 -- The code asks for the longer length, as the definition does.
 use borrow.Author.Tests.{eq-eqb, ne_eqb}
 use Rattle.paper.specs.Base.{form_in}
-use Rattle.paper.proofs.addresses.form_in.Goals as goal
+use Rattle.paper.proofs.Form.of_length.Goals as goal
 
 pub returns-then-n : goal.returns-then-n
 unfolding form_in
