@@ -17,19 +17,19 @@ use Rattle.ledger.proofs.Sums.{occ-joined, all_joined}
 use Rattle.octets.specs.Numbers.{be32_at}
 use Rattle.octets.specs.Runs.{part, all_zero}
 use Rattle.octets.proofs.Numbers.{be32_at-be32, be32_at-part}
-use Rattle.octets.proofs.Runs.{zero-replicate}
+use Rattle.octets.proofs.Runs.{zero-replicate, to_are_bytes}
 use Rattle.paper.specs.Base.{number_of, Slot, closed, Table, slot, ppa_numbers, no_ppa, stream_total, most_ppas}
 use Rattle.paper.specs.Sound.{every, holds_nothing, open_tests, sound_slot, is_single, is_alone, remembers_openings, sound}
 use Rattle.paper.specs.Correlations.{occurrences}
 use Rattle.paper.specs.declared.Stream.{Stream}
 use Rattle.paper.specs.declared.Ppa.{Ppa}
 use Rattle.table_image.specs.Layout.{ppa_base, slot_base, slot_parts, ppa_from, ppa_at, table_of, stream_bytes, waiting_bytes, slot_bytes}
-use Rattle.table_image.specs.Layout.{header_bytes, image_of, place_size, count_offset, numbers_offset, slot_size, slots_offset, slot_part}
+use Rattle.table_image.specs.Layout.{tidy, tidy_ppas, image_size, memory_offset, header_bytes, image_of, place_size, count_offset, numbers_offset, slot_size, slots_offset, slot_part}
 use Rattle.table_image.specs.Lent.{Lent}
 use Rattle.octets.proofs.Pieces.{joined_at}
 use Rattle.table_image.proofs.Shapes.{slots-wide, header_length}
 use Rattle.table_lookup.proofs.Laws.{ppa-place}
-use Rattle.table_soundness.specs.Groups.{is_attached_right, is_bound_right, is_count_right, open_numbers, is_single_in, are_single, is_stream_sound}
+use Rattle.table_soundness.specs.Groups.{are_slots_tidy, is_attached_right, is_bound_right, is_count_right, open_numbers, is_single_in, are_single, is_stream_sound}
 use Rattle.paper.proofs.SoundTests.{holds_nothing_lem}
 
 -- ---- the bytes of a slot
@@ -38,6 +38,13 @@ pub slot-of_parts : (img : List ℕ) (i : ℕ) → i < stream_total → get_or (
 slot-of_parts img i h =
     let z : 0 + i ≡ i = omega arith in
     listed_at (slot_part img) 0 stream_total i [] h ∙ ap (slot_part img) z
+
+-- ---- what is lent are bytes, and tidy by the other tests
+
+pub tidy_bytes : (img : List ℕ) → ((k : ℕ) → get_or img k 0 < 256)
+    → tidy img ≡ both (eqb (length img) image_size) (both (leb (get_or img memory_offset 0) 1) (both (tidy_ppas img) (are_slots_tidy img)))
+unfolding tidy are_slots_tidy
+tidy_bytes img h = rw (to_are_bytes img h)
 
 -- ---- PPA numbers
 

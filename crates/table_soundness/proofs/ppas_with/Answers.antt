@@ -1,28 +1,24 @@
--- After k turns the first k PPAs are counted.
-use Prim.Native.Nat.{◌≤◌, ◌<◌}
-use mathlib.Core.Path.{sym, ap, ◌∙◌}
-use lib.ListN.{length}
+-- The PPAs are counted place by place.
+use mathlib.Core.Path.{◌∙◌, sym}
+use lib.Dec.{eqb}
+use lib.ListN.{get_or}
+use borrow.Author.Tests.{tests}
+use borrow.Author.Rules.{rules}
 use native.Mathlib.Omega.{arith}
+use Rattle.std.proofs.lemmas.Iterator.{YieldsList-from_range}
+use Rattle.std.proofs.lemmas.Iterator.Consumers.{count_from_yields_List, YieldsList-from_filter}
 use Rattle.ledger.proofs.Tallies.{occ_sum}
-use Rattle.ledger.proofs.Walks.{sum_on, sum_ends}
 use Rattle.paper.specs.Base.{ppa_numbers}
 use Rattle.table_image.specs.Layout.{table_of}
+use Rattle.table_soundness.proofs.Places.{counted_places}
 use Rattle.table_soundness.proofs.Slots.{ppas_many}
-use Rattle.table_soundness.proofs.ppas_with.Invariants.{is}
 use Rattle.table_soundness.proofs.ppas_with.Goals as goal
-
-pub loop-k-preserved : goal.loop-k-preserved
-loop-k-preserved c =
-    let t = table_of c.args.img.now in
-    let n = c.args.n in
-    let l = c.loop-k in
-    let b : l.k < length (ppa_numbers t) = omega (arith, c.loop-k-test.true, c.ppa_total-total.ensures, ppas_many t) in
-    let one = c.one_if-found.ensures.is ∙ ap (is n) c.ppa_number.ensures in
-    (omega (arith, c.one_if-found.ensures.few, l.invariant.0), sum_on 0 (ppa_numbers t) l.k b (is n) l.found c.one_if-found.result l.invariant.1 one)
 
 pub returns : goal.returns
 returns c =
-    let t = table_of c.args.img.now in
     let n = c.args.n in
-    let all : length (ppa_numbers t) ≤ c.loop-k.k = omega (arith, c.loop-k-test.false, c.ppa_total-total.ensures, ppas_many t) in
-    sum_ends (ppa_numbers t) c.loop-k.k all (is n) c.loop-k.found c.loop-k.invariant.1 ∙ sym (occ_sum n (ppa_numbers t))
+    let t = table_of c.args.img.now in
+    let ppas = ppa_numbers t in
+    count_from_yields_List _ _ c.count.ensures.ran (YieldsList-from_filter _ (λ k. eqb n (get_or ppas k 0)) (YieldsList-from_range 0 _ _ c.filter.ensures.source (omega arith)) c.filter.ensures.closure (λ x r q k. search (rules, tests)))
+    ∙ counted_places (eqb n) 0 ppas _ (ppas_many t ∙ sym c.ppa_total-total.ensures)
+    ∙ sym (occ_sum n ppas)

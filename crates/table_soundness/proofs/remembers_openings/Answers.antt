@@ -7,11 +7,8 @@ use Rattle.table_image.specs.Layout.{table_of}
 use Rattle.ledger.proofs.Tallies.{all_counted}
 use Rattle.table_soundness.proofs.remembers_openings.Goals as goal
 
-pub returns-then-remembers : goal.returns-then-remembers
-returns-then-remembers c = simp (sym c.remembers.ensures ∙ c.if-remembers.true)
-
-pub returns : goal.returns
-returns c =
+pub returns-else-remembers : goal.returns-else-remembers
+returns-else-remembers c =
     let t = table_of c.args.img.now in
     let p : Slot → Bool = λ (x : Slot). not x.is_open in
     simp (sym c.remembers.ensures ∙ c.if-remembers.false)
