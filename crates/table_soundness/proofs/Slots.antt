@@ -1,6 +1,6 @@
 -- What the bytes of an image tell of its table: PPA numbers, open and closed streams; and the clauses of a sound table in groups.
 use Prim.Native.Nat.{ℕ, zero, suc, ◌+◌, ◌*◌, ◌≤◌, ◌<◌}
-use mathlib.Core.Path.{◌≡◌, refl, sym, ap, ◌∙◌}
+use mathlib.Core.Path.{◌≡◌, refl, sym, ap, ap₂, ◌∙◌}
 use mathlib.Core.Bool.{Bool, true, not}
 use mathlib.Core.List.{List, [], ◌++◌, append-nil}
 use lib.ListN.{length, get_or, take, drop, replicate, length-map}
@@ -9,8 +9,8 @@ use lib.Dec.{eqb, ltb, leb, eqb-suc-zero}
 use native.Mathlib.Omega.{arith}
 use borrow.Author.Tests.{eq-eqb, lt-ltb, le-leb}
 use Rattle.ledger.specs.Choice.{both}
-use Rattle.ledger.specs.Tally.{occ, all_of}
-use Rattle.ledger.proofs.Tallies.{to_both, both_true, both_assoc, both_swap, same_test, all_both}
+use Rattle.ledger.specs.Tally.{one_if, occ, sum_of, all_of}
+use Rattle.ledger.proofs.Tallies.{to_both, both_true, both_assoc, both_swap, same_test, all_both, all_counted}
 use Rattle.ledger.proofs.Lists.{map_at, listed_at}
 use Rattle.ledger.specs.Lists.{joined}
 use Rattle.ledger.proofs.Sums.{occ-joined, all_joined}
@@ -27,6 +27,8 @@ use Rattle.table_image.specs.Layout.{ppa_base, slot_base, slot_parts, ppa_from, 
 use Rattle.table_image.specs.Layout.{tidy, tidy_ppas, image_size, memory_offset, header_bytes, image_of, place_size, count_offset, numbers_offset, slot_size, slots_offset, slot_part}
 use Rattle.table_image.specs.Lent.{Lent}
 use Rattle.octets.proofs.Pieces.{joined_at}
+use Rattle.table_image.proofs.Lending.{lent-tidy}
+use Rattle.paper.proofs.StateNumbers.{state-told}
 use Rattle.table_image.proofs.Shapes.{slots-wide, header_length}
 use Rattle.table_lookup.proofs.Laws.{ppa-place}
 use Rattle.table_soundness.specs.Groups.{are_slots_tidy, is_attached_right, is_bound_right, is_count_right, open_numbers, is_single_in, are_single, is_stream_sound}
@@ -51,9 +53,9 @@ tidy_bytes img h = rw (to_are_bytes img h)
 pub ppas_many : (t : Table) → length (ppa_numbers t) ≡ length t.ppas
 ppas_many t = length-map t.ppas (λ (p : Ppa). p.number.0)
 
-pub ppa-number-at : (img : List ℕ) (k : ℕ) → k < length (table_of img).ppas → be32_at img (ppa_base k) ≡ get_or (ppa_numbers (table_of img)) k 0
+pub ppa_number_at : (img : List ℕ) (k : ℕ) → k < length (table_of img).ppas → be32_at img (ppa_base k) ≡ get_or (ppa_numbers (table_of img)) k 0
 unfolding ppa_at ppa_from
-ppa-number-at img k h =
+ppa_number_at img k h =
     let c : List ℕ = drop (ppa_base k) img in
     let number : Ppa → ℕ = λ p. p.number.0 in
     sym (be32_at-part img (ppa_base k))
@@ -94,11 +96,12 @@ zeros x = same_test (all_zero (take numbers_offset (slot_bytes x))) (holds_nothi
         (to_both _ _ (eq-eqb s.sap 0 (omega (arith, byte 2, byte 3))) (to_both _ _ (eq-eqb s.granted 0 (byte 8)) refl)))
         (eq-eqb (length x.waiting) 0 (byte count_offset))))
 
-pub closed-bytes : (img : List ℕ) → Lent img → (i : ℕ) → i < stream_total → all_zero (part img (slot_base i) numbers_offset) ≡ holds_nothing (slot (table_of img) i)
+pub closed_bytes : (img : List ℕ) (i at n : ℕ) → Lent img → i < stream_total → at ≡ slot_base i → n ≡ numbers_offset → all_zero (part img at n) ≡ holds_nothing (slot (table_of img) i)
 unfolding image_of
-closed-bytes img l i h =
+closed_bytes img i at n l h e f =
     let t : Table = table_of img in
-    ap all_zero
+    ap₂ (λ (a k : ℕ). all_zero (part img a k)) e f
+    ∙ ap all_zero
     (sym (take-take numbers_offset slot_size (drop (slot_base i) img) (omega arith))
     ∙ ap (λ (r : List ℕ). take numbers_offset (slot_part r i)) (sym l.same)
     ∙ ap (λ (r : List ℕ). take numbers_offset (slot_part (header_bytes t ++ r) i)) (sym (append-nil (joined slot_bytes t.slots)))
@@ -107,6 +110,13 @@ closed-bytes img l i h =
       l.shaped.sixteen,
     )) []))
     ∙ zeros (slot t i)
+
+-- ---- all are closed exactly if as many are closed as there are
+
+pub all_closed : (t : Table) → length t.slots ≡ stream_total → eqb (sum_of (λ (x : Slot). one_if (not x.is_open)) t.slots) stream_total ≡ all_of (λ (x : Slot). not x.is_open) t.slots
+all_closed t h =
+    let p : Slot → Bool = λ x. not x.is_open in
+    ap (eqb (sum_of (λ (x : Slot). one_if (p x)) t.slots)) (sym h) ∙ all_counted p t.slots
 
 -- ---- the clauses, those of the streams in one
 
@@ -132,3 +142,8 @@ sound_groups t h =
     let alones : Bool = all_of alone t.slots in
     rw (le-leb (length t.ppas) most_ppas h, both_true (remembers_openings t), ← singles t)
     (rw (all_both own alone t.slots, both_assoc owns alones, both_swap alones (all_of single t.slots)))
+
+-- ---- laws of the layers below, under names that an attribute can cite
+
+pub ruleset tidy_is_lent = (lent-tidy)
+pub ruleset states_told = (state-told)

@@ -19,6 +19,7 @@ use table_image::{
 // ---- a tidy image: what is unused is zero
 
 // A state that the paper has: the one that the byte tells has its number.
+#[tactic(auto, unfolding(table_image::specs::Layout::is_state), using(crate::proofs::Slots::states_told))]
 fn is_state(n: u8) -> bool
     ensures { result ≡ is_state n }
 {
@@ -56,6 +57,7 @@ fn are_places_tidy(img: &[u8]) -> bool
     total <= MOST_PPAS && octets::is_zero(&img[total * PLACE_SIZE + PLACES_OFFSET..SLOTS_OFFSET])
 }
 
+#[tactic(auto, using(crate::proofs::Slots::tidy_bytes))]
 fn is_tidy(img: &[u8]) -> bool
     ensures { result ≡ tidy img.now }
 {
@@ -67,6 +69,7 @@ fn is_tidy(img: &[u8]) -> bool
 
 // ---- PPA numbers differ
 
+#[tactic(auto, using(crate::proofs::Slots::ppa_number_at))]
 fn ppa_number(img: &[u8], k: usize) -> u32
     requires { LentPpa k img.now }
     ensures { result ≡ get_or (ppa_numbers (table_of img.now)) k 0 }
@@ -94,6 +97,7 @@ fn ppas_differ(img: &[u8]) -> bool
 // ---- each stream by itself
 
 // Attached to a PPA of the table except in state 0.
+#[tactic(auto, unfolding(crate::specs::Groups::is_attached_right, paper::specs::Base::knows))]
 fn is_attached_right(img: &[u8], s: Stream) -> bool
     requires { Lent img.now }
     ensures { result ≡ is_attached_right (ppa_numbers (table_of img.now)) s }
@@ -148,6 +152,7 @@ fn is_open_sound(img: &[u8], i: usize) -> bool
 }
 
 // A closed stream holds nothing: its bytes up to the count of open numbers are zero, and so in a tidy image are the others.
+#[tactic(auto, unfolding(paper::specs::Sound::sound_slot), using(crate::proofs::Slots::closed_bytes))]
 fn is_slot_sound(img: &[u8], i: usize) -> bool
     requires { LentAt i img.now }
     ensures { result ≡ sound_slot (ppa_numbers (table_of img.now)) (slot (table_of img.now) i) }
@@ -236,7 +241,7 @@ fn are_streams_sound(img: &[u8]) -> bool
 }
 
 // A table with an open stream remembers an opening.
-#[tactic(auto, using(ledger::proofs::Tallies::all_counted))]
+#[tactic(auto, using(crate::proofs::Slots::all_closed))]
 fn remembers_openings(img: &[u8]) -> bool
     requires { Lent img.now }
     ensures { result ≡ remembers_openings (table_of img.now) }
@@ -252,7 +257,7 @@ fn is_sound(img: &[u8]) -> bool
     ppas_differ(img) && are_streams_sound(img) && are_numbers_single(img) && remembers_openings(img)
 }
 
-#[tactic(auto, unfolding(table_image::specs::Layout::sound_image))]
+#[tactic(auto, unfolding(table_image::specs::Layout::sound_image), using(crate::proofs::Slots::tidy_is_lent))]
 pub fn sound_image(img: &[u8]) -> bool
     ensures { result ≡ sound_image img.now }
 {
