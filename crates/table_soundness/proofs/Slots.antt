@@ -1,13 +1,13 @@
 -- What the bytes of an image tell of its table: PPA numbers, open and closed streams; and the clauses of a sound table in groups.
-use Prim.Native.Nat.{ℕ, zero, suc, ◌+◌, ◌*◌, ◌≤◌, ◌<◌}
+use Prim.Native.Nat.{ℕ, ◌+◌, ◌*◌, ◌≤◌, ◌<◌}
 use mathlib.Core.Path.{◌≡◌, refl, sym, ap, ap₂, ◌∙◌}
 use mathlib.Core.Bool.{Bool, true, not}
 use mathlib.Core.List.{List, [], ◌++◌, append-nil}
 use lib.ListN.{length, get_or, take, drop, replicate, length-map}
 use lib.Seq.{take-take}
-use lib.Dec.{eqb, ltb, leb, eqb-suc-zero}
+use lib.Dec.{eqb, ltb, leb}
 use native.Mathlib.Omega.{arith}
-use borrow.Author.Tests.{eq-eqb, lt-ltb, le-leb}
+use borrow.Author.Tests.{eq-eqb, le-leb}
 use Rattle.ledger.specs.Choice.{both}
 use Rattle.ledger.specs.Tally.{one_if, occ, sum_of, all_of}
 use Rattle.ledger.proofs.Tallies.{to_both, both_true, both_assoc, both_swap, same_test, all_both, all_counted}
@@ -71,11 +71,6 @@ pub grouped : (ppas : List ℕ) (x : Slot) → every (open_tests ppas x)
     ≡ both (is_attached_right ppas x.stream) (both (is_bound_right x.stream) (is_count_right x.stream (length x.waiting)))
 unfolding is_attached_right is_bound_right is_count_right
 grouped ppas x = simp (both_assoc, both_true)
-
--- a count of none, of any granted
-pub none_waits : (n g : ℕ) → eqb n 0 ≡ both (not (ltb 0 n)) (leb n g)
-none_waits zero g = sym (le-leb 0 g (omega arith))
-none_waits (suc n) g = rw (eqb-suc-zero n, lt-ltb 0 (suc n) (omega arith))
 
 -- ---- closed streams
 
