@@ -49,9 +49,9 @@ module _ {S F : Type 0} {steps : S → Option (Bor (List ℕ)) → S → Type 0}
     all_chunks long keeps true h =
         let many : p.len ≡ stream_total = chunks.1 h.0 ∙ ap (λ (n : ℕ). n / slot_size) long in
         sym (all_below q [] (slot_parts img) (λ k b.
-            let w : k < stream_total = omega (arith, listed-length (slot_part img) 0 stream_total) in
-            let x = one_at p.items k (omega (arith, p.long)) in
-            tells true k (p.at k) w (chunks.2 k) (surely _ (p.at k) x.0 (at-is p k ∙ x.1) (h.1 keeps k))))
+        let w : k < stream_total = omega (arith, listed-length (slot_part img) 0 stream_total) in
+        let x = one_at p.items k (omega (arith, p.long)) in
+        tells true k (p.at k) w (chunks.2 k) (surely _ (p.at k) x.0 (at-is p k ∙ x.1) (h.1 keeps k))))
     all_chunks long keeps false h =
         let y = h keeps in
         let w : y.0 < stream_total = omega (arith, chunks.0) in

@@ -141,4 +141,5 @@ sound_groups t h =
 -- ---- laws of the layers below, under names that an attribute can cite
 
 pub ruleset tidy_is_lent = (lent-tidy)
+
 pub ruleset states_told = (state-told)

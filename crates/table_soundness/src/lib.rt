@@ -82,7 +82,7 @@ fn ppas_with(img: &[u8], n: u32) -> usize
     requires { Lent img.now }
     ensures { result ≡ occ n (ppa_numbers (table_of img.now)) }
 {
-    let total = table_image::ppa_total(img) as usize;
+    let total = usize::from(table_image::ppa_total(img));
     (0..total).filter(|k| n == ppa_number(img, *k)).count()
 }
 
@@ -90,7 +90,7 @@ fn ppas_differ(img: &[u8]) -> bool
     requires { Lent img.now }
     ensures { result ≡ all_of (λ (p : ℕ). leb (occ p (ppa_numbers (table_of img.now))) 1) (ppa_numbers (table_of img.now)) }
 {
-    let total = table_image::ppa_total(img) as usize;
+    let total = usize::from(table_image::ppa_total(img));
     (0..total).all(|k| ppas_with(img, ppa_number(img, k)) <= 1)
 }
 
@@ -196,7 +196,7 @@ fn are_numbers_single(img: &[u8]) -> bool
 {
     let mut numbers = [0u32; MOST_NUMBERS];
     let total = table_numbers::open_numbers(img, &mut numbers);
-    are_single(&numbers[0..total])
+    are_single(&numbers[..total])
 }
 
 // ---- no two streams listen for one PPA and SAP

@@ -20,5 +20,5 @@ returns c =
     let t = table_of c.args.img.now in
     let ppas = ppa_numbers t in
     count_from_yields_List _ _ c.count.ensures.ran (YieldsList-from_filter _ (λ k. eqb n (get_or ppas k 0)) (YieldsList-from_range 0 _ _ c.filter.ensures.source (omega arith)) c.filter.ensures.closure (λ x r q k. search (rules, tests)))
-    ∙ counted_places (eqb n) 0 ppas _ (ppas_many t ∙ sym c.ppa_total-total.ensures)
+    ∙ counted_places (eqb n) 0 ppas _ (ppas_many t ∙ sym c.ppa_total.ensures ∙ sym c.from-total.ensures)
     ∙ sym (occ_sum n ppas)
