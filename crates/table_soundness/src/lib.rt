@@ -78,12 +78,12 @@ fn ppa_number(img: &[u8], k: usize) -> u32
 }
 
 // How often a number is that of a PPA.
-fn ppas_with(img: &[u8], n: u32) -> usize
+fn ppas_with(img: &[u8], n: u32) -> u32
     requires { Lent img.now }
     ensures { result ≡ occ n (ppa_numbers (table_of img.now)) }
 {
     let total = usize::from(table_image::ppa_total(img));
-    (0..total).filter(|k| n == ppa_number(img, *k)).count()
+    (0..total).map(|k| u32::from(n == ppa_number(img, k))).sum()
 }
 
 fn ppas_differ(img: &[u8]) -> bool
@@ -201,13 +201,13 @@ fn are_numbers_single(img: &[u8]) -> bool
 
 // ---- no two streams listen for one PPA and SAP
 
-fn listeners_for(img: &[u8], p: PpaNumber, sap: u32) -> usize
+fn listeners_for(img: &[u8], p: PpaNumber, sap: u32) -> u32
     requires { Lent img.now }
     ensures { result ≡ listeners_of (table_of img.now) p sap }
 {
     (0..STREAM_TOTAL)
-        .filter(|i| table_lookup::listens_at(img, p, sap, *i))
-        .count()
+        .map(|i| u32::from(table_lookup::listens_at(img, p, sap, i)))
+        .sum()
 }
 
 #[tactic(auto, unfolding(paper::specs::Sound::is_alone))]

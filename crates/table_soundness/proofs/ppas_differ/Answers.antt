@@ -22,4 +22,4 @@ returns c =
     let ppas = ppa_numbers t in
     let once : ℕ → Bool = λ p. leb (occ p ppas) 1 in
     all_from_yields_List (λ k. once (get_or ppas k 0)) _ _ _ c.all.ensures.ran (YieldsList-from_range 0 c.from-total.result _ (cc) (omega arith)) (λ x b q k. search (rules, tests))
-    ∙ all_places once 0 ppas _ (ppas_many t ∙ sym c.ppa_total.ensures ∙ sym c.from-total.ensures)
+    ∙ all_places 0 ppas _ (ppas_many t ∙ sym c.ppa_total.ensures ∙ sym c.from-total.ensures) once
