@@ -1,19 +1,20 @@
 -- Numbers are single among all exactly if each is single among those from it on: one that does not come again is no other's equal.
-use Prim.Native.Nat.{ℕ, suc, ◌+◌, ◌-◌, ◌≤◌, ◌<◌}
-use native.Mathlib.Numerals.{add-one}
+use Prim.Native.Nat.{ℕ, suc, ◌+◌, ◌-◌, ◌≤◌}
 use native.Mathlib.Omega.{arith}
 use mathlib.Core.Path.{◌≡◌, refl, sym, ap, ap₂, ◌∙◌}
 use mathlib.Core.Bool.{Bool, true, false}
 use mathlib.Core.List.{List, [], ◌∷◌}
 use lib.Dec.{eqb, ltb, leb}
-use lib.ListN.{length, get_or, drop, length-drop, drop_of_length-le}
-use lib.Seq.{take_all, drop-cons}
+use lib.ListN.{length, get_or, drop, length-drop}
+use lib.Seq.{take_all}
 use borrow.Author.Tests.{leb-true, eqb-false, eq-eqb, ne_eqb}
+use Rattle.std.specs.List.{list_all, range_with_len}
 use Rattle.ledger.specs.Choice.{both}
 use Rattle.ledger.specs.Tally.{one_if, occ, all_of}
 use Rattle.ledger.proofs.Tallies.{both_of}
 use Rattle.octets.specs.Runs.{part}
 use Rattle.table_soundness.specs.Groups.{is_single_in, are_single}
+use Rattle.table_soundness.proofs.Places.{both-and}
 
 abbrev single_on : List ℕ → Bool
 single_on [] = true
@@ -42,7 +43,7 @@ comes-once n l h =
     let k : one_if (eqb n n) + occ n l ≤ 1 = leb-true _ _ (both_of (ltb 0 n) _ h).1 in
     omega (arith, ap one_if (eq-eqb n n refl))
 
-pub single_on_lem : (l : List ℕ) → single_on l ≡ are_single l
+single_on_lem : (l : List ℕ) → single_on l ≡ are_single l
 single_on_lem [] = refl
 single_on_lem (n ∷ l) = ap (both (is_single_in (n ∷ l) n)) (single_on_lem l) ∙ go (is_single_in (n ∷ l) n) refl
   where
@@ -50,24 +51,13 @@ single_on_lem (n ∷ l) = ap (both (is_single_in (n ∷ l) n)) (single_on_lem l)
     go true e = sym (aside n l l (comes-once n l e))
     go false e = refl
 
--- ---- the walk: the numbers before place k have passed
+-- ---- the walk: whether the number at place k is single among those from it on
+single_from : (t : ℕ → Bool) (l : List ℕ) (a : ℕ) → ((k j : ℕ) → a + k ≡ j → t j ≡ is_single_in (drop k l) (get_or l k 0)) → list_all t (range_with_len a (length l)) ≡ single_on l
+single_from t [] a h = refl
+single_from t (x ∷ l) a h = both-and (t a) (list_all t (range_with_len (a + 1) (length l))) ∙ ap₂ both (h 0 a (omega arith)) (single_from t l (a + 1) (λ k j e. h (suc k) j (omega arith)))
 
-abbrev pub PassedTo : List ℕ → ℕ → Type 0
-PassedTo l k = are_single l ≡ single_on (drop k l)
-
-module _ (l : List ℕ) (k : ℕ) (h : k < length l) where
-  -- whether the number at place k is single among those from it on
-  abbrev here : Bool
-  here = is_single_in (part l k (length l - k)) (get_or l k 0)
-
-  turn : single_on (drop k l) ≡ both here (single_on (drop (suc k) l))
-  turn = rw (take_all (length l - k) (drop k l) (omega (arith, length-drop k l)), drop-cons l k 0 h)
-
-  pub not_single : PassedTo l k → here ≡ false → false ≡ are_single l
-  not_single p e = sym (p ∙ turn ∙ rw e)
-
-  pub one_more_lem : PassedTo l k → here ≡ true → PassedTo l (k + 1)
-  one_more_lem p e = p ∙ turn ∙ rw (e, add-one)
-
-pub all_single : (l : List ℕ) (k : ℕ) → length l ≤ k → PassedTo l k → true ≡ are_single l
-all_single l k h p = sym (p ∙ ap single_on (drop_of_length-le l h))
+pub all_single : (l : List ℕ) → list_all (λ k. is_single_in (part l k (length l - k)) (get_or l k 0)) (range_with_len 0 (length l)) ≡ are_single l
+all_single l =
+    let here : (k j : ℕ) → 0 + k ≡ j → is_single_in (part l j (length l - j)) (get_or l j 0) ≡ is_single_in (drop k l) (get_or l k 0) =
+    λ k j e. let z : j ≡ k = omega arith in ap (λ (i : ℕ). is_single_in (part l i (length l - i)) (get_or l i 0)) z ∙ ap (λ (r : List ℕ). is_single_in r (get_or l k 0)) (take_all (length l - k) (drop k l) (omega (arith, length-drop k l))) in
+    single_from (λ k. is_single_in (part l k (length l - k)) (get_or l k 0)) l 0 here ∙ single_on_lem l

@@ -1,35 +1,37 @@
 -- What the bytes of an image tell of its table: PPA numbers, open and closed streams; and the clauses of a sound table in groups.
-use Prim.Native.Nat.{ℕ, zero, suc, ◌+◌, ◌*◌, ◌≤◌, ◌<◌}
-use mathlib.Core.Path.{◌≡◌, refl, sym, ap, ◌∙◌}
+use Prim.Native.Nat.{ℕ, ◌+◌, ◌*◌, ◌≤◌, ◌<◌}
+use mathlib.Core.Path.{◌≡◌, refl, sym, ap, ap₂, ◌∙◌}
 use mathlib.Core.Bool.{Bool, true, not}
 use mathlib.Core.List.{List, [], ◌++◌, append-nil}
 use lib.ListN.{length, get_or, take, drop, replicate, length-map}
 use lib.Seq.{take-take}
-use lib.Dec.{eqb, ltb, leb, eqb-suc-zero}
+use lib.Dec.{eqb, ltb, leb}
 use native.Mathlib.Omega.{arith}
-use borrow.Author.Tests.{eq-eqb, lt-ltb, le-leb}
+use borrow.Author.Tests.{eq-eqb, le-leb}
 use Rattle.ledger.specs.Choice.{both}
-use Rattle.ledger.specs.Tally.{occ, all_of}
-use Rattle.ledger.proofs.Tallies.{to_both, both_true, both_assoc, both_swap, same_test, all_both}
+use Rattle.ledger.specs.Tally.{one_if, occ, sum_of, all_of}
+use Rattle.ledger.proofs.Tallies.{to_both, both_true, both_assoc, both_swap, same_test, all_both, all_counted}
 use Rattle.ledger.proofs.Lists.{map_at, listed_at}
 use Rattle.ledger.specs.Lists.{joined}
 use Rattle.ledger.proofs.Sums.{occ-joined, all_joined}
 use Rattle.octets.specs.Numbers.{be32_at}
 use Rattle.octets.specs.Runs.{part, all_zero}
 use Rattle.octets.proofs.Numbers.{be32_at-be32, be32_at-part}
-use Rattle.octets.proofs.Runs.{zero-replicate}
+use Rattle.octets.proofs.Runs.{zero-replicate, to_are_bytes}
 use Rattle.paper.specs.Base.{number_of, Slot, closed, Table, slot, ppa_numbers, no_ppa, stream_total, most_ppas}
 use Rattle.paper.specs.Sound.{every, holds_nothing, open_tests, sound_slot, is_single, is_alone, remembers_openings, sound}
 use Rattle.paper.specs.Correlations.{occurrences}
 use Rattle.paper.specs.declared.Stream.{Stream}
 use Rattle.paper.specs.declared.Ppa.{Ppa}
 use Rattle.table_image.specs.Layout.{ppa_base, slot_base, slot_parts, ppa_from, ppa_at, table_of, stream_bytes, waiting_bytes, slot_bytes}
-use Rattle.table_image.specs.Layout.{header_bytes, image_of, place_size, count_offset, numbers_offset, slot_size, slots_offset, slot_part}
+use Rattle.table_image.specs.Layout.{tidy, tidy_ppas, image_size, memory_offset, header_bytes, image_of, place_size, count_offset, numbers_offset, slot_size, slots_offset, slot_part}
 use Rattle.table_image.specs.Lent.{Lent}
 use Rattle.octets.proofs.Pieces.{joined_at}
+use Rattle.table_image.proofs.Lending.{lent-tidy}
+use Rattle.paper.proofs.StateNumbers.{state-told}
 use Rattle.table_image.proofs.Shapes.{slots-wide, header_length}
 use Rattle.table_lookup.proofs.Laws.{ppa-place}
-use Rattle.table_soundness.specs.Groups.{is_attached_right, is_bound_right, is_count_right, open_numbers, is_single_in, are_single, is_stream_sound}
+use Rattle.table_soundness.specs.Groups.{are_slots_tidy, is_attached_right, is_bound_right, is_count_right, open_numbers, is_single_in, are_single, is_stream_sound}
 use Rattle.paper.proofs.SoundTests.{holds_nothing_lem}
 
 -- ---- the bytes of a slot
@@ -39,14 +41,21 @@ slot-of_parts img i h =
     let z : 0 + i ≡ i = omega arith in
     listed_at (slot_part img) 0 stream_total i [] h ∙ ap (slot_part img) z
 
+-- ---- what is lent are bytes, and tidy by the other tests
+
+pub tidy_bytes : (img : List ℕ) → ((k : ℕ) → get_or img k 0 < 256)
+    → tidy img ≡ both (eqb (length img) image_size) (both (leb (get_or img memory_offset 0) 1) (both (tidy_ppas img) (are_slots_tidy img)))
+unfolding tidy are_slots_tidy
+tidy_bytes img h = rw (to_are_bytes img h)
+
 -- ---- PPA numbers
 
 pub ppas_many : (t : Table) → length (ppa_numbers t) ≡ length t.ppas
 ppas_many t = length-map t.ppas (λ (p : Ppa). p.number.0)
 
-pub ppa-number-at : (img : List ℕ) (k : ℕ) → k < length (table_of img).ppas → be32_at img (ppa_base k) ≡ get_or (ppa_numbers (table_of img)) k 0
+pub ppa_number_at : (img : List ℕ) (k : ℕ) → k < length (table_of img).ppas → be32_at img (ppa_base k) ≡ get_or (ppa_numbers (table_of img)) k 0
 unfolding ppa_at ppa_from
-ppa-number-at img k h =
+ppa_number_at img k h =
     let c : List ℕ = drop (ppa_base k) img in
     let number : Ppa → ℕ = λ p. p.number.0 in
     sym (be32_at-part img (ppa_base k))
@@ -62,11 +71,6 @@ pub grouped : (ppas : List ℕ) (x : Slot) → every (open_tests ppas x)
     ≡ both (is_attached_right ppas x.stream) (both (is_bound_right x.stream) (is_count_right x.stream (length x.waiting)))
 unfolding is_attached_right is_bound_right is_count_right
 grouped ppas x = simp (both_assoc, both_true)
-
--- a count of none, of any granted
-pub none_waits : (n g : ℕ) → eqb n 0 ≡ both (not (ltb 0 n)) (leb n g)
-none_waits zero g = sym (le-leb 0 g (omega arith))
-none_waits (suc n) g = rw (eqb-suc-zero n, lt-ltb 0 (suc n) (omega arith))
 
 -- ---- closed streams
 
@@ -87,11 +91,12 @@ zeros x = same_test (all_zero (take numbers_offset (slot_bytes x))) (holds_nothi
         (to_both _ _ (eq-eqb s.sap 0 (omega (arith, byte 2, byte 3))) (to_both _ _ (eq-eqb s.granted 0 (byte 8)) refl)))
         (eq-eqb (length x.waiting) 0 (byte count_offset))))
 
-pub closed-bytes : (img : List ℕ) → Lent img → (i : ℕ) → i < stream_total → all_zero (part img (slot_base i) numbers_offset) ≡ holds_nothing (slot (table_of img) i)
+pub closed_bytes : (img : List ℕ) (i at n : ℕ) → Lent img → i < stream_total → at ≡ slot_base i → n ≡ numbers_offset → all_zero (part img at n) ≡ holds_nothing (slot (table_of img) i)
 unfolding image_of
-closed-bytes img l i h =
+closed_bytes img i at n l h e f =
     let t : Table = table_of img in
-    ap all_zero
+    ap₂ (λ (a k : ℕ). all_zero (part img a k)) e f
+    ∙ ap all_zero
     (sym (take-take numbers_offset slot_size (drop (slot_base i) img) (omega arith))
     ∙ ap (λ (r : List ℕ). take numbers_offset (slot_part r i)) (sym l.same)
     ∙ ap (λ (r : List ℕ). take numbers_offset (slot_part (header_bytes t ++ r) i)) (sym (append-nil (joined slot_bytes t.slots)))
@@ -100,6 +105,13 @@ closed-bytes img l i h =
       l.shaped.sixteen,
     )) []))
     ∙ zeros (slot t i)
+
+-- ---- all are closed exactly if as many are closed as there are
+
+pub all_closed : (t : Table) → length t.slots ≡ stream_total → eqb (sum_of (λ (x : Slot). one_if (not x.is_open)) t.slots) stream_total ≡ all_of (λ (x : Slot). not x.is_open) t.slots
+all_closed t h =
+    let p : Slot → Bool = λ x. not x.is_open in
+    ap (eqb (sum_of (λ (x : Slot). one_if (p x)) t.slots)) (sym h) ∙ all_counted p t.slots
 
 -- ---- the clauses, those of the streams in one
 
@@ -125,3 +137,9 @@ sound_groups t h =
     let alones : Bool = all_of alone t.slots in
     rw (le-leb (length t.ppas) most_ppas h, both_true (remembers_openings t), ← singles t)
     (rw (all_both own alone t.slots, both_assoc owns alones, both_swap alones (all_of single t.slots)))
+
+-- ---- laws of the layers below, under names that an attribute can cite
+
+pub ruleset tidy_is_lent = (lent-tidy)
+
+pub ruleset states_told = (state-told)

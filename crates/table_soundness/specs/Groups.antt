@@ -1,4 +1,4 @@
--- The tests of a stream, in the groups in which they are made.
+-- The tests of slots and streams, in the groups in which they are made.
 use Rattle.std.specs.Prelude.{ℕ, Bool, List, eqb, ltb, leb}
 use Rattle.ledger.specs.Choice.{pick, both, asks}
 use Rattle.ledger.specs.Tally.{occ, has, all_of}
@@ -7,6 +7,12 @@ use Rattle.paper.specs.Base.{is_in, is_among, bound_states, connection_states, S
 use Rattle.paper.specs.Saps.{as_bind_allows}
 use Rattle.paper.specs.Sound.{every, same_answer, unbound, sound_slot, is_alone}
 use Rattle.paper.specs.declared.Stream.{Stream}
+use Rattle.table_image.specs.Layout.{tidy_slot, slot_parts}
+
+-- ---- a tidy image: each slot is
+
+unfoldable pub are_slots_tidy : List ℕ → Bool
+are_slots_tidy img = all_of tidy_slot (slot_parts img)
 
 -- ---- an open stream (`open_tests`)
 

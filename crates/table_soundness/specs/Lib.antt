@@ -1,2 +1,2 @@
--- The tests of a stream, in the groups in which they are made.
+-- The tests of slots and streams, in the groups in which they are made.
 pub mod Groups

@@ -1,28 +1,33 @@
--- After i turns the first i streams are counted.
-use Prim.Native.Nat.{◌<◌}
-use mathlib.Core.Path.{ap, ◌∙◌}
-use lib.ListN.{length}
+-- The streams are counted place by place.
+use Prim.Native.Nat.{ℕ}
+use mathlib.Core.Path.{◌∙◌}
+use mathlib.Core.Bool.{Bool}
 use native.Mathlib.Omega.{arith}
+use borrow.Author.Rules.{rules}
+use Rattle.std.specs.List.{range_with_len}
+use Rattle.std.proofs.lemmas.Iterator.{YieldsList-from_map, YieldsList-from_range}
+use Rattle.std.proofs.lemmas.Iterator.Consumers.{sum_by_from_yields_List, fits_by_from_yields_list}
 use Rattle.ledger.specs.Tally.{one_if}
-use Rattle.ledger.proofs.Walks.{sum_on, sum_ends}
-use Rattle.paper.specs.Base.{closed}
+use Rattle.paper.specs.Base.{Slot, closed, slot, stream_total}
+use Rattle.paper.specs.Saps.{listens}
 use Rattle.table_image.specs.Layout.{table_of}
-use Rattle.table_soundness.proofs.listeners_for.Invariants.{heard}
+use Rattle.table_soundness.proofs.Places.{summed_places, passed_most}
 use Rattle.table_soundness.proofs.listeners_for.Goals as goal
 
-pub loop-i-preserved : goal.loop-i-preserved
-loop-i-preserved c =
-    let t = table_of c.args.img.now in
-    let p = c.args.p in
-    let sap = c.args.sap in
-    let l = c.loop-i in
-    let b : l.i < length t.slots = omega (arith, c.loop-i-test.true, c.requires.shaped.sixteen) in
-    let one = c.one_if-found.ensures.is ∙ ap one_if c.listens_at.ensures in
-    (omega (arith, c.one_if-found.ensures.few, l.invariant.0), sum_on closed t.slots l.i b (heard p sap) l.found c.one_if-found.result l.invariant.1 one)
+pub sum-requires-clause-fits : goal.sum-requires-clause-fits
+sum-requires-clause-fits c =
+    let a = c.args in
+    let t = table_of a.img.now in
+    let heard : Slot → Bool = λ x. listens a.p a.sap x.stream in
+    let at : ℕ → ℕ = λ i. one_if (heard (slot t i)) in
+    fits_by_from_yields_list at (range_with_len 0 stream_total) _ _ (YieldsList-from_map _ at (YieldsList-from_range 0 stream_total stream_total c.map.ensures.source (omega arith)) c.map.ensures.closure (λ x r q k. search rules))
+    (omega (arith, passed_most closed t.slots stream_total c.requires.shaped.sixteen heard))
 
 pub returns : goal.returns
 returns c =
-    let t = table_of c.args.img.now in
-    let p = c.args.p in
-    let sap = c.args.sap in
-    sum_ends t.slots c.loop-i.i (omega (arith, c.loop-i-test.false, c.requires.shaped.sixteen)) (heard p sap) c.loop-i.found c.loop-i.invariant.1
+    let a = c.args in
+    let t = table_of a.img.now in
+    let heard : Slot → ℕ = λ x. one_if (listens a.p a.sap x.stream) in
+    let at : ℕ → ℕ = λ i. heard (slot t i) in
+    sum_by_from_yields_List at (range_with_len 0 stream_total) _ _ c.sum.ensures.ran (YieldsList-from_map _ at (YieldsList-from_range 0 stream_total stream_total c.map.ensures.source (omega arith)) c.map.ensures.closure (λ x r q k. search rules))
+    ∙ summed_places closed t.slots stream_total c.requires.shaped.sixteen heard

@@ -1,36 +1,25 @@
--- The PPAs before k have passed.
-use Prim.Native.Nat.{ℕ, ◌<◌}
-use mathlib.Core.Path.{◌≡◌, ap, ◌∙◌}
-use lib.ListN.{length, get_or}
+-- The PPAs are tested place by place.
+use Prim.Native.Nat.{ℕ}
+use mathlib.Core.Path.{◌∙◌, sym}
+use mathlib.Core.Bool.{Bool}
+use lib.Dec.{leb}
+use lib.ListN.{get_or}
+use borrow.Author.Tests.{tests}
+use borrow.Author.Rules.{rules}
 use native.Mathlib.Omega.{arith}
-use borrow.Author.Tests.{lt-leb, le-leb}
+use Rattle.std.proofs.lemmas.Iterator.{YieldsList-from_range}
+use Rattle.std.proofs.lemmas.Iterator.Search.{all_from_yields_List}
 use Rattle.ledger.specs.Tally.{occ}
-use Rattle.ledger.proofs.Walks.{all_fails, all_on, all_ends}
 use Rattle.paper.specs.Base.{ppa_numbers}
 use Rattle.table_image.specs.Layout.{table_of}
+use Rattle.table_soundness.proofs.Places.{all_places}
 use Rattle.table_soundness.proofs.Slots.{ppas_many}
-use Rattle.table_soundness.proofs.ppas_differ.Invariants.{once}
 use Rattle.table_soundness.proofs.ppas_differ.Goals as goal
-
-pub returns-then-ppas_with-gt1 : goal.returns-then-ppas_with-gt1
-returns-then-ppas_with-gt1 c =
-    let t = table_of c.args.img.now in
-    let k = c.loop-k.k in
-    let b : k < length (ppa_numbers t) = omega (arith, c.loop-k-test.true, c.ppa_total-total.ensures, ppas_many t) in
-    let e : c.ppas_with.result ≡ occ (get_or (ppa_numbers t) k 0) (ppa_numbers t) =
-    c.ppas_with.ensures ∙ ap (λ (n : ℕ). occ n (ppa_numbers t)) c.ppa_number.ensures in
-    all_fails 0 (ppa_numbers t) k b (once t) c.loop-k.invariant (lt-leb (occ (get_or (ppa_numbers t) k 0) (ppa_numbers t)) 1 (omega (arith, e, c.if-ppas_with-gt1.true)))
-
-pub loop-k-preserved : goal.loop-k-preserved
-loop-k-preserved c =
-    let t = table_of c.args.img.now in
-    let k = c.loop-k.k in
-    let b : k < length (ppa_numbers t) = omega (arith, c.loop-k-test.true, c.ppa_total-total.ensures, ppas_many t) in
-    let e : c.ppas_with.result ≡ occ (get_or (ppa_numbers t) k 0) (ppa_numbers t) =
-    c.ppas_with.ensures ∙ ap (λ (n : ℕ). occ n (ppa_numbers t)) c.ppa_number.ensures in
-    all_on 0 (ppa_numbers t) k b (once t) c.loop-k.invariant (le-leb (occ (get_or (ppa_numbers t) k 0) (ppa_numbers t)) 1 (omega (arith, e, c.if-ppas_with-gt1.false)))
 
 pub returns : goal.returns
 returns c =
     let t = table_of c.args.img.now in
-    all_ends (ppa_numbers t) c.loop-k.k (omega (arith, c.loop-k-test.false, c.ppa_total-total.ensures, ppas_many t)) (once t) c.loop-k.invariant
+    let ppas = ppa_numbers t in
+    let once : ℕ → Bool = λ p. leb (occ p ppas) 1 in
+    all_from_yields_List (λ k. once (get_or ppas k 0)) _ _ _ c.all.ensures.ran (YieldsList-from_range 0 c.from-total.result _ (cc) (omega arith)) (λ x b q k. search (rules, tests))
+    ∙ all_places 0 ppas _ (ppas_many t ∙ sym c.ppa_total.ensures ∙ sym c.from-total.ensures) once

@@ -1,28 +1,38 @@
--- After k turns the first k PPAs are counted.
-use Prim.Native.Nat.{◌≤◌, ◌<◌}
-use mathlib.Core.Path.{sym, ap, ◌∙◌}
-use lib.ListN.{length}
+-- The PPAs are counted place by place.
+use Prim.Native.Nat.{ℕ}
+use mathlib.Core.Path.{◌∙◌, sym}
+use lib.Dec.{eqb}
+use lib.ListN.{get_or}
 use native.Mathlib.Omega.{arith}
+use borrow.Author.Rules.{rules}
+use Rattle.std.specs.List.{range_with_len}
+use Rattle.std.proofs.lemmas.Iterator.{YieldsList-from_map, YieldsList-from_range}
+use Rattle.std.proofs.lemmas.Iterator.Consumers.{sum_by_from_yields_List, fits_by_from_yields_list}
+use Rattle.ledger.specs.Tally.{one_if}
 use Rattle.ledger.proofs.Tallies.{occ_sum}
-use Rattle.ledger.proofs.Walks.{sum_on, sum_ends}
 use Rattle.paper.specs.Base.{ppa_numbers}
 use Rattle.table_image.specs.Layout.{table_of}
+use Rattle.table_soundness.proofs.Places.{summed_places, passed_most}
 use Rattle.table_soundness.proofs.Slots.{ppas_many}
-use Rattle.table_soundness.proofs.ppas_with.Invariants.{is}
 use Rattle.table_soundness.proofs.ppas_with.Goals as goal
 
-pub loop-k-preserved : goal.loop-k-preserved
-loop-k-preserved c =
-    let t = table_of c.args.img.now in
+pub sum-requires-clause-fits : goal.sum-requires-clause-fits
+sum-requires-clause-fits c =
     let n = c.args.n in
-    let l = c.loop-k in
-    let b : l.k < length (ppa_numbers t) = omega (arith, c.loop-k-test.true, c.ppa_total-total.ensures, ppas_many t) in
-    let one = c.one_if-found.ensures.is ∙ ap (is n) c.ppa_number.ensures in
-    (omega (arith, c.one_if-found.ensures.few, l.invariant.0), sum_on 0 (ppa_numbers t) l.k b (is n) l.found c.one_if-found.result l.invariant.1 one)
+    let t = table_of c.args.img.now in
+    let ppas = ppa_numbers t in
+    let total = c.from-total.result in
+    let at : ℕ → ℕ = λ k. one_if (eqb n (get_or ppas k 0)) in
+    fits_by_from_yields_list at (range_with_len 0 total) _ _ (YieldsList-from_map _ at (YieldsList-from_range 0 total total c.map.ensures.source (omega arith)) c.map.ensures.closure (λ x r q k. search rules))
+    (omega (arith, c.requires.shaped.few, passed_most 0 ppas total (ppas_many t ∙ sym c.ppa_total.ensures ∙ sym c.from-total.ensures) (eqb n)))
 
 pub returns : goal.returns
 returns c =
-    let t = table_of c.args.img.now in
     let n = c.args.n in
-    let all : length (ppa_numbers t) ≤ c.loop-k.k = omega (arith, c.loop-k-test.false, c.ppa_total-total.ensures, ppas_many t) in
-    sum_ends (ppa_numbers t) c.loop-k.k all (is n) c.loop-k.found c.loop-k.invariant.1 ∙ sym (occ_sum n (ppa_numbers t))
+    let t = table_of c.args.img.now in
+    let ppas = ppa_numbers t in
+    let total = c.from-total.result in
+    let at : ℕ → ℕ = λ k. one_if (eqb n (get_or ppas k 0)) in
+    sum_by_from_yields_List at (range_with_len 0 total) _ _ c.sum.ensures.ran (YieldsList-from_map _ at (YieldsList-from_range 0 total total c.map.ensures.source (omega arith)) c.map.ensures.closure (λ x r q k. search rules))
+    ∙ summed_places 0 ppas total (ppas_many t ∙ sym c.ppa_total.ensures ∙ sym c.from-total.ensures) (λ (x : ℕ). one_if (eqb n x))
+    ∙ sym (occ_sum n ppas)
