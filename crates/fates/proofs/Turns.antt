@@ -1,16 +1,13 @@
 -- What a call and a turn of any program leave is, of fates, a table and a register of what was heard, and the text of the lines.
 use Prim.Native.Nat.{ℕ}
-use mathlib.Core.Path.{ap, ◌∙◌}
+use mathlib.Core.Path.{◌∙◌}
 use mathlib.Core.List.{List}
-use Rattle.call_outcomes.specs.Leaving.{call_made}
-use Rattle.fates_register.specs.Register.{entered_all}
 use Rattle.turns.specs.Turns.{unread}
 use Rattle.turns.specs.Programs as programs
 use Rattle.turns.specs.declared.Turn.{Turn}
 use Rattle.turns.specs.declared.Printed.{Printed}
 use Rattle.turns.proofs.Laws.{part_after_turn}
 use Rattle.fates.specs.declared.Fates.{Fates}
-use Rattle.fates.specs.Told.{lines_by}
 use Rattle.fates.specs.Turns.{fates_tell, CallTold, Called, Turned, Kept}
 
 pub call_told : (table bytes : List ℕ) (s : Fates) (out : List ℕ) (at n : ℕ) (table' : List ℕ) (s' : Fates) (out' : List ℕ) (r : Printed)
