@@ -1,149 +1,59 @@
 // Reads records on standard input and prints what became of each call that rang in: see docs/FATES.md.
 #![tactic(auto)]
 
-ghost use Rattle.fates.specs.Turns.{CallRoom, CallTold, Standing, AtTurn, AtCall, Called, Turned, Kept};
+ghost use Rattle.std.specs.Prelude.{◌≡◌, ◌+◌, ◌≤◌, length};
+ghost use Rattle.octets.specs.Writing.{WroteMost};
+ghost use Rattle.turns.specs.Turns.{buffer_size, most_text};
+ghost use Rattle.turns.specs.Programs.{CallRoom, Tells};
+ghost use Rattle.fates.specs.Turns.{fates_tell};
 
-use std::io::{Read, Write};
-use turns::Turn;
+use std::io::Write;
+use turns::{Printed, Program};
 
-// One call: its lines are entered in the register, and their text goes to the output from a place on.
-fn call_and_tell(
-    table: &mut [u8],
-    register: &mut [u64],
-    bytes: &[u8],
-    room: &mut [u8],
-    out: &mut [u8],
-    at: usize,
-) -> usize
-    requires { CallRoom table.old register.old room.old out.old at }
-    ensures { CallTold table.old register.old bytes.now out.old at table.new register.new out.new result }
-{
-    let answer = call_engine::call_sound(table, bytes, room);
-    fates_report::tell_call(register, out, at, bytes, answer, room)
+// Beside the table it keeps the register of what it heard.
+#[derive(Drop)]
+struct Fates {
+    register: [u64; fates_register::REGISTER_SIZE],
 }
 
-// The call on what is not read yet, and its text behind what is printed already.
-fn called(
-    table: &mut [u8],
-    register: &mut [u64],
-    room: &mut [u8],
-    input: &[u8],
-    output: &mut [u8],
-    t: Turn,
-) -> Turn
-    requires { AtCall table.old register.old room.old input.now output.old t }
-    ensures { Called table.old register.old input.now output.old t table.new register.new output.new result }
-{
-    let start = t.start;
-    let end = t.end;
-    let filled = call_and_tell(table, register, &input[start..end], room, output, t.filled);
-    turns::after_call(input, filled, false, t)
-}
+impl Program for Fates {
+    ghost tells = { fates_tell };
 
-// A call is made where a whole record may stand in the input, or no more is to come. Reading ends behind the last record, and
-// at one that is cut or of an unknown kind.
-fn turned(
-    table: &mut [u8],
-    register: &mut [u64],
-    room: &mut [u8],
-    input: &[u8],
-    output: &mut [u8],
-    t: Turn,
-) -> Turn
-    requires { AtTurn table.old register.old room.old input.now output.old t }
-    ensures { Turned table.old register.old input.now output.old t table.new register.new output.new result }
-{
-    if turns::waits(t) {
-        return t;
+    fn put_title(out: &mut [u8]) -> usize {
+        fates_report::put_heading(out, 0)
     }
-    if turns::is_over(t) {
-        return turns::stopped(t);
-    }
-    called(table, register, room, input, output, t)
-}
 
-fn one_turn<R: Read, W: Write>(
-    reader: &mut R,
-    writer: &mut W,
-    table: &mut [u8],
-    register: &mut [u64],
-    room: &mut [u8],
-    input: &mut [u8],
-    output: &mut [u8],
-    t: Turn,
-) -> Turn
-    requires { Standing table.old register.old room.old input.old output.old t }
-    ensures { Kept table.new register.new result }
-{
-    let a = turns::fed(reader, input, t);
-    if !a.going {
-        return a;
-    }
-    let b = turns::drained(writer, output, a);
-    if !b.going {
-        return b;
-    }
-    turned(table, register, room, input, output, b)
-}
-
-// Turn after turn, until one says to stop; no more than 64 bits count.
-fn run<R: Read, W: Write>(
-    reader: &mut R,
-    writer: &mut W,
-    table: &mut [u8],
-    register: &mut [u64],
-    room: &mut [u8],
-    input: &mut [u8],
-    output: &mut [u8],
-    t0: Turn,
-) -> Turn
-    requires { Standing table.old register.old room.old input.old output.old t0 }
-    ensures { Kept table.new register.new result }
-{
-    let mut t = t0;
-    let mut left = turns::MOST_CALLS;
-    while 0 < left {
-        if !t.going {
-            return t;
+    // The lines of the call are entered in the register. Refused calls are not counted.
+    fn call(
+        &mut self,
+        table: &mut [u8],
+        bytes: &[u8],
+        room: &mut [u8],
+        out: &mut [u8],
+        at: usize,
+        _n: u64,
+    ) -> Printed {
+        let answer = call_engine::call_sound(table, bytes, room);
+        let end = fates_report::tell_call(&mut self.register, out, at, bytes, answer, room);
+        Printed {
+            end,
+            refused: false,
         }
-        t = one_turn(reader, writer, table, register, room, input, output, t);
-        left -= 1;
     }
-    t
+
+    fn put_closing(&self, out: &mut [u8], at: usize, _calls: u64, _refused: u64) -> usize {
+        fates_report::put_closing(out, at, &self.register)
+    }
 }
 
-// Starts from a fresh table and a blank register, with the first line filled in. Where reading or writing failed there is no
-// last line, so that what was printed is not taken for the whole.
+// Starts from a blank register.
 fn main(rt: HostRuntime) {
     let mut reader = rt.stdin();
     let mut writer = rt.stdout();
-    let mut table = [0u8; table_image::IMAGE_SIZE];
-    table_image::make_fresh(&mut table);
-    let mut register = [0u64; fates_register::REGISTER_SIZE];
-    let mut room = [0u8; paper::FRAME_ROOM_SIZE];
-    let mut input = turns::buffer();
-    let mut output = turns::buffer();
-    let title = fates_report::put_heading(&mut output, 0);
-    let first = turns::first_turn(title);
-    let last = run(
-        &mut reader,
-        &mut writer,
-        &mut table,
-        &mut register,
-        &mut room,
-        &mut input,
-        &mut output,
-        first,
-    );
-    let d = turns::drained(&mut writer, &output, last);
-    let filled = d.filled;
-    if d.failed {
-        let _ = writer.write_all(&output[0..filled]);
-        let _ = rt.stderr().write_all(b"fates: reading or writing failed\n");
-        return;
-    }
-    let end = fates_report::put_closing(&mut output, filled, &register);
-    if writer.write_all(&output[0..end]).is_err() {
+    let mut fates = Fates {
+        register: [0u64; fates_register::REGISTER_SIZE],
+    };
+    if turns::tell(&mut fates, &mut reader, &mut writer).is_err() {
         let _ = rt.stderr().write_all(b"fates: reading or writing failed\n");
     }
 }

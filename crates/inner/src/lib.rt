@@ -32,14 +32,11 @@ fn run(table: &mut [u8], capture: &[u8], room: &mut [u8]) -> u64
     requires { CallRoom table.old room.old }
     ensures { ran result table.new ≡ run_from (length capture.now) table.old 0 capture.now }
 {
-    let mut refused: u64 = 0;
-    let mut at: usize = 0;
-    while at < capture.len() {
-        let bytes = &capture[at..];
-        if one_call(table, bytes, room) {
-            refused += 1;
-        }
-        at += passed(bytes);
+    let mut refused = 0;
+    let mut rest = capture;
+    while !rest.is_empty() {
+        refused += u64::from(one_call(table, rest, room));
+        rest = &rest[passed(rest)..];
     }
     refused
 }

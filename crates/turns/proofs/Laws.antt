@@ -1,12 +1,16 @@
--- Where the calls are not over there is a next number: that there is none is one of the two tests of it.
-use Prim.Native.Nat.{◌-◌}
-use mathlib.Core.Path.{◌≡◌}
-use mathlib.Core.Bool.{false}
-use lib.Dec.{eqb}
-use borrow.Author.Tests.{eqb-false}
-use Rattle.ledger.proofs.Tallies.{either_no}
-use Rattle.turns.specs.Turns.{most_calls, is_over}
+-- A part of what only a call changes is changed only by a call.
+use mathlib.Core.Path.{◌≡◌, refl}
+use mathlib.Core.Bool.{Bool, true, false}
+use Rattle.ledger.specs.Choice.{◌⇒◌∣◌}
+use Rattle.turns.specs.Turns.{waits, is_over, after_turn}
 use Rattle.turns.specs.declared.Turn.{Turn}
 
-pub not-over : (t : Turn) → is_over t ≡ false → t.calls ≡ most_calls → ⊥
-not-over t e = eqb-false t.calls most_calls (either_no (eqb (t.end - t.start) 0) (eqb t.calls most_calls) e).1
+part_chosen : {A B : Type 0} (f : A → B) (b c : Bool) (x y : A) → f (b ⇒ x ∣ c ⇒ x ∣ y) ≡ (b ⇒ f x ∣ c ⇒ f x ∣ f y)
+unfolding ◌⇒◌∣◌
+part_chosen f true c x y = refl
+part_chosen f false true x y = refl
+part_chosen f false false x y = refl
+
+pub part_after_turn : {A B : Type 0} (f : A → B) (t : Turn) (x y : A) → f (after_turn t x y) ≡ after_turn t (f x) (f y)
+unfolding after_turn
+part_after_turn f t x y = part_chosen f (waits t) (is_over t) x y

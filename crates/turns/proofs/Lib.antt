@@ -1,2 +1,2 @@
--- Laws that the proofs cite.
+-- Laws that the proofs of the programs cite.
 pub mod Laws

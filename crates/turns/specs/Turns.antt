@@ -13,8 +13,12 @@ abbrev pub buffer_size : ℕ
 buffer_size = 163840
 
 -- what may wait to be written while a call is made: the text of a call has room behind it
-abbrev most_waiting : ℕ
+abbrev pub most_waiting : ℕ
 most_waiting = 45000
+
+-- what any text has room for
+abbrev pub most_text : ℕ
+most_text = 118840
 
 -- 64 bits count no more
 abbrev pub most_calls : ℕ
@@ -30,7 +34,6 @@ first_turn filled = record {
   calls = 0;
   refused = 0;
   going = true;
-  failed = false;
 }
 
 -- the bytes of the input that are not read yet
@@ -60,7 +63,6 @@ stopping t = record {
   calls = t.calls;
   refused = t.refused;
   going = false;
-  failed = t.failed;
 }
 
 -- The call is counted, and the output filled as far as its text reaches. Reading goes on behind the record, or ends there.
@@ -73,7 +75,6 @@ after_call input filled refused t = record {
   calls = t.calls + 1;
   refused = t.refused + one_if refused;
   going = ltb 0 (record_size (unread input t));
-  failed = t.failed;
 }
 
 -- A turn with a call that prints this text.
@@ -81,7 +82,7 @@ unfoldable pub turn_after : List ℕ → List ℕ → Bool → Turn → Turn
 turn_after input text refused t = waits t ⇒ t ∣ is_over t ⇒ stopping t ∣ after_call input (t.filled + length text) refused t
 
 -- What only a call changes stays as it was in a turn without one: the table, the output, what is kept of the calls.
-unfoldable pub after_turn : Turn → List ℕ → List ℕ → List ℕ
+unfoldable pub after_turn : {A : Type 0} → Turn → A → A → A
 after_turn t before after = waits t ⇒ before ∣ is_over t ⇒ before ∣ after
 
 -- ---- what holds between two turns: where the program stands in its buffers

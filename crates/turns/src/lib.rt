@@ -1,23 +1,62 @@
-// Where a program stands that reads records on its input and prints a text for each call; how it reads on and writes out.
+// How a program reads records on its input, makes a call for each and prints its text: where it stands between two calls, and how
+// it reads on and writes out.
 #![tactic(auto)]
 
-ghost use Rattle.std.specs.Prelude.{◌≡◌, ◌+◌, ◌<◌, ◌≤◌, length};
-ghost use Rattle.ledger.specs.Tally.{one_if};
+ghost use Rattle.std.specs.Prelude.{◌≡◌, ◌+◌, ◌<◌, ◌≤◌, List, ℕ, false, length};
 ghost use Rattle.octets.specs.Runs.{part, paste};
-ghost use Rattle.turns.specs.Turns.{buffer_size, most_calls, first_turn, waits, is_over, stopping, after_call};
+ghost use Rattle.octets.specs.Writing.{WroteMost};
+ghost use Rattle.paper.specs.Base.{fresh};
+ghost use Rattle.table_image.specs.Layout.{image_of};
+ghost use Rattle.turns.specs.Turns.{buffer_size, most_text, most_calls, first_turn, waits, is_over, after_call};
 ghost use Rattle.turns.specs.Turns.{Ready, FineAs, Buffer, CallMade, Rest, Fed, Drained};
+ghost use Rattle.turns.specs.Programs.{Teller, CallRoom, Tells, Standing, AtTurn, AtCall, Called, Turned, Kept};
 
-use std::io::{Read, Write};
+use std::io::{self, Read, Write};
 
 // A buffer of the program.
 const BUFFER_SIZE: usize = 163840;
 // What may wait to be written while a call is made: the text of a call has room behind it.
 const MOST_WAITING: usize = 45000;
 // 64 bits count no more.
-pub const MOST_CALLS: u64 = 0xffffffffffffffff;
+const MOST_CALLS: u64 = u64::MAX;
+
+// A call that was made and printed: where its text ends, and whether it was refused.
+#[derive(Clone, Copy)]
+pub struct Printed {
+    pub end: usize,
+    pub refused: bool,
+}
+
+// A program by what it keeps beside the table.
+pub trait Program {
+    ghost tells: { Teller Self };
+
+    // The first line.
+    fn put_title(out: &mut [u8]) -> usize
+        requires { length out.old ≡ buffer_size }
+        ensures { WroteMost buffer_size tells.title 0 result out.old out.new };
+
+    // One call, and its text from a place of the output on.
+    fn call(
+        &mut self,
+        table: &mut [u8],
+        bytes: &[u8],
+        room: &mut [u8],
+        out: &mut [u8],
+        at: usize,
+        n: u64,
+    ) -> Printed
+        requires { CallRoom tells table.old self.old room.old out.old at }
+        ensures { Tells tells table.old bytes.now self.old out.old at n table.new self.new out.new result };
+
+    // The last line.
+    fn put_closing(&self, out: &mut [u8], at: usize, calls: u64, refused: u64) -> usize
+        requires { at + most_text ≤ length out.old }
+        ensures { WroteMost most_text (tells.closing self.now calls refused) at result out.old out.new };
+}
 
 // Where the bytes not yet read stand in the input, whether there are more to come, and how much of the output is filled;
-// how many calls were made, and how many refused; whether to go on, and whether reading or writing failed.
+// how many calls were made, and how many refused; whether to go on.
 #[derive(Clone, Copy)]
 pub struct Turn {
     pub start: usize,
@@ -27,31 +66,6 @@ pub struct Turn {
     pub calls: u64,
     pub refused: u64,
     pub going: bool,
-    pub failed: bool,
-}
-
-// Zeros, to read into or to print from.
-pub fn buffer() -> [u8; BUFFER_SIZE]
-    ensures { length result ≡ buffer_size }
-{
-    [0; BUFFER_SIZE]
-}
-
-// Nothing is read and nothing counted; the output may have a first line.
-pub fn first_turn(filled: usize) -> Turn
-    requires { filled ≤ buffer_size }
-    ensures { FineAs (first_turn filled) result }
-{
-    Turn {
-        start: 0,
-        end: 0,
-        ended: false,
-        filled,
-        calls: 0,
-        refused: 0,
-        going: true,
-        failed: false,
-    }
 }
 
 // Bytes of a buffer, no more than the longest record has with its data, to its start.
@@ -64,129 +78,199 @@ fn shift(buf: &mut [u8], from: usize, n: usize)
     octets::put_bytes(buf, 0, &rest[0..n]);
 }
 
-// More input, where a record may be cut: what is left goes to the front, and one read follows it.
-pub fn fed<R: Read>(reader: &mut R, input: &mut [u8], t: Turn) -> Turn
-    requires { Buffer input.old t }
-    ensures { Fed input.old t input.new result }
-{
-    let start = t.start;
-    let left = t.end - start;
-    if paper::PAIR_SIZE <= left || t.ended {
-        return t;
-    }
-    shift(input, start, left);
-    match reader.read(&mut input[left..]) {
-        Ok(more) => Turn {
+impl Turn {
+    // Nothing is read and nothing counted; the output may have a first line.
+    fn first(filled: usize) -> Turn
+        requires { filled ≤ buffer_size }
+        ensures { FineAs (first_turn filled) result }
+    {
+        Turn {
             start: 0,
-            end: left + more,
-            ended: more == 0,
-            filled: t.filled,
-            calls: t.calls,
-            refused: t.refused,
+            end: 0,
+            ended: false,
+            filled,
+            calls: 0,
+            refused: 0,
             going: true,
-            failed: false,
-        },
-        Err(_) => Turn {
-            start: 0,
-            end: left,
-            ended: true,
-            filled: t.filled,
-            calls: t.calls,
-            refused: t.refused,
-            going: false,
-            failed: true,
-        },
+        }
+    }
+
+    // More input, where a record may be cut: what is left goes to the front, and one read follows it.
+    fn feed<R: Read>(&mut self, reader: &mut R, input: &mut [u8]) -> io::Result<()>
+        requires { Buffer input.old self.old }
+        ensures { Fed input.old self.old input.new self.new }
+    {
+        let start = self.start;
+        let left = self.end - start;
+        if paper::PAIR_SIZE <= left || self.ended {
+            return Ok(());
+        }
+        shift(input, start, left);
+        self.start = 0;
+        self.end = left;
+        let more = reader.read(&mut input[left..])?;
+        self.end += more;
+        self.ended = more == 0;
+        Ok(())
+    }
+
+    // Output to be written, where little room is left.
+    fn drain<W: Write>(&mut self, writer: &mut W, output: &[u8]) -> io::Result<()>
+        requires { Buffer output.now self.old }
+        ensures { Drained self.old self.new }
+    {
+        let filled = self.filled;
+        if filled <= MOST_WAITING {
+            return Ok(());
+        }
+        self.filled = 0;
+        writer.write_all(&output[..filled])
+    }
+
+    // A record may be cut, and more bytes may come.
+    fn waits(self) -> bool
+        requires { Ready self }
+        ensures { result ≡ waits self }
+    {
+        self.end - self.start < paper::PAIR_SIZE && !self.ended
+    }
+
+    // No bytes are left, or no numbers to count calls with.
+    fn is_over(self) -> bool
+        requires { Ready self }
+        ensures is { result ≡ is_over self }
+        ensures numbered { result ≡ false → self.calls < most_calls }
+    {
+        self.end - self.start == 0 || self.calls == MOST_CALLS
+    }
+
+    // A call was made on what is not read yet: how far its text fills the output, and whether it was refused.
+    fn after_call(&mut self, input: &[u8], printed: Printed)
+        requires { CallMade input.now printed.end self.old }
+        ensures { FineAs (after_call input.now printed.end printed.refused self.old) self.new }
+    {
+        let size = wire_records::record_size(&input[self.start..self.end]);
+        self.start += size;
+        self.filled = printed.end;
+        self.calls += 1;
+        self.refused += u64::from(printed.refused);
+        self.going = 0 < size;
     }
 }
 
-// Output to be written, where little room is left.
-pub fn drained<W: Write>(writer: &mut W, output: &[u8], t: Turn) -> Turn
-    requires { Buffer output.now t }
-    ensures { Drained t result }
+// The call on what is not read yet, and its text behind what is printed already.
+fn called<P: Program>(
+    program: &mut P,
+    table: &mut [u8],
+    room: &mut [u8],
+    input: &[u8],
+    output: &mut [u8],
+    t: &mut Turn,
+)
+    requires { AtCall P.tells table.old program.old room.old input.now output.old t.old }
+    ensures { Called P.tells table.old program.old input.now output.old t.old table.new program.new output.new t.new }
 {
-    let filled = t.filled;
-    if filled <= MOST_WAITING {
-        return t;
-    }
-    let written = writer.write_all(&output[0..filled]).is_ok();
-    Turn {
-        start: t.start,
-        end: t.end,
-        ended: t.ended,
-        filled: 0,
-        calls: t.calls,
-        refused: t.refused,
-        going: t.going && written,
-        failed: t.failed || !written,
-    }
+    let bytes = &input[t.start..t.end];
+    let printed = program.call(table, bytes, room, output, t.filled, t.calls + 1);
+    t.after_call(input, printed);
 }
 
-// A record may be cut, and more bytes may come.
-pub fn waits(t: Turn) -> bool
-    requires { Ready t }
-    ensures { result ≡ waits t }
+// A call is made where a whole record may stand in the input, or no more is to come. Reading ends behind the last record, and
+// at one that is cut or of an unknown kind.
+fn turned<P: Program>(
+    program: &mut P,
+    table: &mut [u8],
+    room: &mut [u8],
+    input: &[u8],
+    output: &mut [u8],
+    t: &mut Turn,
+)
+    requires { AtTurn P.tells table.old program.old room.old input.now output.old t.old }
+    ensures { Turned P.tells table.old program.old input.now output.old t.old table.new program.new output.new t.new }
 {
-    if t.end - t.start < paper::PAIR_SIZE {
-        return !t.ended;
+    if t.waits() {
+        return;
     }
-    false
+    if t.is_over() {
+        t.going = false;
+        return;
+    }
+    called(program, table, room, input, output, t);
 }
 
-// No bytes are left, or no numbers to count calls with.
-pub fn is_over(t: Turn) -> bool
-    requires { Ready t }
-    ensures { result ≡ is_over t }
+fn one_turn<P: Program, R: Read, W: Write>(
+    program: &mut P,
+    reader: &mut R,
+    writer: &mut W,
+    table: &mut [u8],
+    room: &mut [u8],
+    input: &mut [u8],
+    output: &mut [u8],
+    t: &mut Turn,
+) -> io::Result<()>
+    requires { Standing P.tells table.old program.old room.old input.old output.old t.old }
+    ensures { Kept P.tells table.new program.new t.new }
 {
-    if t.end - t.start == 0 {
-        return true;
-    }
-    t.calls == MOST_CALLS
+    t.feed(reader, input)?;
+    t.drain(writer, output)?;
+    turned(program, table, room, input, output, t);
+    Ok(())
 }
 
-// No more turns.
-pub fn stopped(t: Turn) -> Turn
-    requires { Ready t }
-    ensures { FineAs (stopping t) result }
+// Turn after turn, until one says to stop; no more than 64 bits count.
+fn run<P: Program, R: Read, W: Write>(
+    program: &mut P,
+    reader: &mut R,
+    writer: &mut W,
+    table: &mut [u8],
+    room: &mut [u8],
+    input: &mut [u8],
+    output: &mut [u8],
+    t: &mut Turn,
+) -> io::Result<()>
+    requires { Standing P.tells table.old program.old room.old input.old output.old t.old }
+    ensures { Kept P.tells table.new program.new t.new }
 {
-    Turn {
-        start: t.start,
-        end: t.end,
-        ended: t.ended,
-        filled: t.filled,
-        calls: t.calls,
-        refused: t.refused,
-        going: false,
-        failed: t.failed,
+    for _ in 0..MOST_CALLS {
+        if !t.going {
+            break;
+        }
+        one_turn(program, reader, writer, table, room, input, output, t)?;
     }
+    Ok(())
 }
 
-// One more, where a call was refused.
-fn one_more_if(n: u64, refused: bool) -> u64
-    requires { n < most_calls }
-    ensures { result ≡ n + one_if refused }
+// The whole text of a program, from a fresh table on. Where reading or writing fails there is no last line, so that what was
+// printed is not taken for the whole.
+pub fn tell<P: Program, R: Read, W: Write>(
+    program: &mut P,
+    reader: &mut R,
+    writer: &mut W,
+) -> io::Result<()>
+    requires { P.tells.holds (image_of fresh) program.old }
+    ensures { (table : List ℕ) × P.tells.holds table program.new }
 {
-    if refused {
-        return n + 1;
+    let mut table = [0u8; table_image::IMAGE_SIZE];
+    table_image::make_fresh(&mut table);
+    let mut room = [0u8; paper::FRAME_ROOM_SIZE];
+    let mut input = [0u8; BUFFER_SIZE];
+    let mut output = [0u8; BUFFER_SIZE];
+    let mut t = Turn::first(P::put_title(&mut output));
+    let ran = run(
+        program,
+        reader,
+        writer,
+        &mut table,
+        &mut room,
+        &mut input,
+        &mut output,
+        &mut t,
+    );
+    if ran.is_err() {
+        let _ = writer.write_all(&output[..t.filled]);
+        return ran;
     }
-    n
-}
-
-// A call was made on what is not read yet: how far its text fills the output, and whether it was refused.
-pub fn after_call(input: &[u8], filled: usize, refused: bool, t: Turn) -> Turn
-    requires { CallMade input.now filled t }
-    ensures { FineAs (after_call input.now filled refused t) result }
-{
-    let start = t.start;
-    let end = t.end;
-    let size = wire_records::record_size(&input[start..end]);
-    Turn {
-        start: start + size,
-        end,
-        ended: t.ended,
-        filled,
-        calls: t.calls + 1,
-        refused: one_more_if(t.refused, refused),
-        going: 0 < size,
-        failed: t.failed,
-    }
+    t.drain(writer, &output)?;
+    let end = program.put_closing(&mut output, t.filled, t.calls, t.refused);
+    writer.write_all(&output[..end])
 }

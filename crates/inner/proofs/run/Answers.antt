@@ -1,58 +1,38 @@
--- What is still to come, from where the loop stands, leads to the same end: a call more, or none where no byte is left.
-use Prim.Native.Nat.{◌+◌, ◌-◌}
+-- What is still to come, on the bytes that are left, leads to the same end: a call more, or none where no byte is left.
+use Prim.Native.Nat.{◌-◌}
 use native.Mathlib.Omega.{arith}
 use mathlib.Core.Path.{◌≡◌, refl, ap, ◌∙◌}
-use mathlib.Core.Bool.{Bool}
-use lib.ListN.{length, take, drop, length-take, length-drop}
+use mathlib.Core.Bool.{Bool, true, false}
+use mir.Val.{bool_byte}
+use lib.ListN.{length, drop, length-drop}
 use lib.Seq.{take_all}
 use borrow.Author.Rules.{rules}
 use Rattle.ledger.specs.Tally.{one_if}
 use Rattle.ledger.proofs.Tallies.{one_most}
 use Rattle.inner.proofs.Laws.{ahead_more, ahead_none}
 use Rattle.inner.proofs.run.Goals as goal
-use Rattle.inner.proofs.run.Goals.{then-one_call, else-one_call}
 
-pub loop-at-init : goal.loop-at-init
-loop-at-init c = record {
-  within = search rules;
-  few = search rules;
-  long = search rules;
-  roomy = search rules;
-  sound = search rules;
-  ahead = record { calls = length c.args.capture.now; enough = search rules; same = refl };
-}
+byte_one : (b : Bool) → bool_byte b ≡ one_if b
+byte_one true = refl
+byte_one false = refl
 
-pub one_call-requires : goal.one_call-requires
-one_call-requires c = record { sound = c.loop-at.invariant.sound; roomy = search rules }
-
-pub loop-at-preserved : goal.loop-at-preserved
-loop-at-preserved c =
-    let l = c.loop-at in
-    let capture = c.args.capture.now in
-    let at = l.at in
-    let rest = drop at capture in
-    let bytes = take (length capture - at) rest in
+pub loop-rest-preserved : goal.loop-rest-preserved
+loop-rest-preserved c =
+    let l = c.loop-rest in
+    let bytes = l.rest.now in
     let call = c.one_call in
-    let size = c.passed-at.ensures in
-    let flag : c.if-one_call.refused ≡ l.refused + one_if call.result =
-    elim c.if-one_call.branch [
-      | then-one_call w ↦ rw (w.if-one_call.true, w.refused-is) (omega arith)
-      | else-one_call w ↦ rw (w.if-one_call.false, w.refused-is) (omega arith)
-    ] in
-    let count = flag ∙ ap (λ (b : Bool). l.refused + one_if b) call.ensures.told in
-    let all = take_all (length capture - at) rest (omega (arith, length-drop at capture)) in
+    let size = c.passed.ensures in
+    let one = c.from-refused.ensures ∙ byte_one call.result in
+    let more = one ∙ ap one_if call.ensures.told in
+    let k = c.passed.result in
+    let whole = take_all (length bytes - k) (drop k bytes) (omega (arith, length-drop k bytes)) in
     record {
-      within = omega (arith, size, length-drop at capture, length-take (length capture - at) rest);
-      few = omega (arith, size, flag, one_most call.result);
+      few = omega (arith, size.some, one, one_most call.result, length-drop k bytes, ap length whole);
       long = search rules;
       roomy = search rules;
       sound = call.ensures.sound;
-      ahead =
-          rw (call.ensures.image, count, size.is)
-          (ahead_more capture l.table bytes l.refused at _ c.loop-at-test.true all l.invariant.ahead);
+      ahead = rw (whole, call.ensures.image, more, size.is) (ahead_more bytes l.table l.refused _ (omega (arith, size.some, size.within)) l.invariant.ahead);
     }
 
 pub returns : goal.returns
-returns c =
-    let capture = c.args.capture.now in
-    ahead_none capture _ _ c.loop-at.at _ c.loop-at-test.false c.loop-at.invariant.ahead
+returns c = ahead_none _ _ _ _ (search rules) c.loop-rest.invariant.ahead

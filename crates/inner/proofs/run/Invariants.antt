@@ -1,5 +1,5 @@
--- What is still to come, from where the loop stands, leads to the same end: a call more, or none where no byte is left.
-use Prim.Native.Nat.{ℕ, ◌≤◌, ◌-◌}
+-- What is still to come, on the bytes that are left, leads to the same end: a call more, or none where no byte is left.
+use Prim.Native.Nat.{ℕ, ◌≤◌, ◌+◌}
 use mathlib.Core.Path.{◌≡◌}
 use mathlib.Core.Bool.{true}
 use mathlib.Core.List.{List}
@@ -9,16 +9,15 @@ use Rattle.inner.specs.Run.{run_from}
 use Rattle.inner.proofs.Laws.{Ahead}
 use Rattle.inner.proofs.run.Given as goal
 
-pub record Running (table₀ capture room₀ table room : List ℕ) (refused at : ℕ) : Type 0 where
-  pub within : at ≤ length capture
-  pub few : refused ≤ at
+pub record Running (table₀ capture room₀ table rest room : List ℕ) (refused : ℕ) : Type 0 where
+  pub few : refused + length rest ≤ length capture
   pub long : length table ≡ length table₀
   pub roomy : length room ≡ length room₀
   pub sound : sound_image table ≡ true
-  pub ahead : Ahead capture table refused at (run_from (length capture) table₀ 0 capture)
+  pub ahead : Ahead rest table refused (run_from (length capture) table₀ 0 capture)
 
-abbrev pub invariant-loop-at : goal.invariant-loop-at
-invariant-loop-at l = Running l.initial.table l.capture l.initial.room l.table l.room l.refused l.at
+abbrev pub invariant-loop-rest : goal.invariant-loop-rest
+invariant-loop-rest l = Running l.initial.table l.capture l.initial.room l.table l.rest l.room l.refused
 
-abbrev pub decreases-loop-at : goal.decreases-loop-at
-decreases-loop-at l = length l.capture - l.at
+abbrev pub decreases-loop-rest : goal.decreases-loop-rest
+decreases-loop-rest l = length l.rest

@@ -2,7 +2,7 @@
 -- leave, whatever stood in the room.
 use native.Mathlib.Omega.{arith}
 use Prim.Native.Nat.{ℕ}
-use mathlib.Core.Path.{◌≡◌, sym, ap, subst, ◌∙◌}
+use mathlib.Core.Path.{◌≡◌, refl, sym, ap, subst, ◌∙◌}
 use mathlib.Core.List.{List}
 use Rattle.octets.proofs.Writing.{wrote-same}
 use Rattle.call_outcomes.specs.Leaving.{Left, token_in, call_made}
@@ -13,29 +13,30 @@ use Rattle.fates_register.specs.Register.{entered_all}
 use Rattle.fates_report.specs.Report.{all_text}
 use Rattle.fates.specs.Told.{lines_by}
 use Rattle.fates.proofs.Telling.{told-next, told-sound}
-use Rattle.fates.proofs.call_and_tell.Goals as goal
+use Rattle.fates.proofs.FatesProgram.call.Goals as goal
 
 same_lines : (r : List ℕ) (l m : Left) → SameBack l m → lines_by r l ≡ lines_by r m
 same_lines r l m same i = lines_of r (token_in (same.number i)) (same.written i)
 
 pub call_sound-answer-requires : goal.call_sound-answer-requires
 call_sound-answer-requires c =
-    told-sound c.args.table.now c.args.register.now c.requires.told
+    told-sound c.args.table.now c.args.self.now.register c.requires.holds
 
 pub returns : goal.returns
 returns c =
     let a = c.args in
-    let register = a.register.now in
+    let register = a.self.now.register in
     let made = call_made a.table.now a.bytes.now in
     let same =
     subst (λ (l : Left). SameBack l made) (sym c.call_sound-answer.ensures) (made_in a.table.now a.bytes.now a.room.now c.requires.roomy) in
     let lines = same_lines a.bytes.now _ made same in
-    let told = c.tell_call.ensures in
+    let told = c.tell_call-end.ensures in
     let entered = told.entered ∙ ap (λ (ys : List Line). entered_all ys register) lines in
-    let next = told-next a.table.now register a.bytes.now c.requires.told (λ k. omega (arith, c.type_inv.bytes k)) in
+    let next = told-next a.table.now register a.bytes.now c.requires.holds (λ k. omega (arith, c.type_inv.bytes k)) in
     record {
-      told = rw (same.image, entered) next;
       image = same.image;
-      entered = entered;
+      kept = λ i. record { register = entered i };
+      holds = rw (same.image, entered) next;
       wrote = wrote-same (ap (λ (ys : List Line). all_text ys register) lines) told.wrote;
+      told = refl;
     }

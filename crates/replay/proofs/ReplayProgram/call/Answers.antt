@@ -2,7 +2,7 @@
 -- stood in the room.
 use Prim.Native.Nat.{ℕ, ◌/◌, ◌%◌}
 use native.Mathlib.Omega.{arith}
-use mathlib.Core.Path.{◌≡◌, sym, ap, subst, ◌∙◌}
+use mathlib.Core.Path.{◌≡◌, refl, sym, ap, subst, ◌∙◌}
 use lib.Dec.{ltb}
 use lib.ListN.{take, replicate}
 use Rattle.octets.proofs.Writing.{wrote-same}
@@ -14,7 +14,7 @@ use Rattle.keeping.proofs.Images.{call_keeps}
 use Rattle.replay_transcript.specs.Transcript.{call_text}
 use Rattle.replay_transcript.proofs.Laws.{text_of-written}
 use Rattle.replay.specs.Printed.{printed}
-use Rattle.replay.proofs.replay_call.Goals as goal
+use Rattle.replay.proofs.ReplayProgram.call.Goals as goal
 
 same_text : (n : ℕ) (l m : Left) → SameBack l m → printed n l ≡ printed n m
 same_text n l m same =
@@ -27,10 +27,11 @@ returns c =
     let made = call_made a.table.now a.bytes.now in
     let same =
     subst (λ (l : Left). SameBack l made) (sym c.call_sound-answer.ensures) (made_in a.table.now a.bytes.now a.room.now c.requires.roomy) in
-    let kept = call_keeps a.table.now a.bytes.now (replicate frame_room_size 0) c.requires.sound (λ k. omega (arith, c.type_inv.bytes k)) in
+    let kept = call_keeps a.table.now a.bytes.now (replicate frame_room_size 0) c.requires.holds (λ k. omega (arith, c.type_inv.bytes k)) in
     record {
       image = same.image;
-      sound = ap sound_image same.image ∙ kept;
+      kept = refl;
+      holds = ap sound_image same.image ∙ kept;
       wrote = wrote-same (same_text a.n _ made same) c.put_call-end.ensures;
       told = ap (λ (k : ℕ). ltb 0 (k / 65536 % 256)) same.number;
     }

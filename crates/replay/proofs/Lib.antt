@@ -1,0 +1,2 @@
+-- What a turn of any program leaves, said of replay.
+pub mod Turns
