@@ -3,7 +3,7 @@ use Prim.Native.Nat.{ℕ, zero, suc, ◌+◌, ◌-◌, ◌*◌, ◌≤◌, ◌<�
 use native.Mathlib.Omega.{arith}
 use mathlib.Core.Path.{◌≡◌, refl, sym, ap, ◌∙◌}
 use mathlib.Core.Bool.{true}
-use mathlib.Core.List.{List, [], ◌∷◌, ◌++◌, append_assoc, append-nil}
+use mathlib.Core.List.{List, [], ◌∷◌, ◌++◌, append_assoc, append-nil, map}
 use lib.ListN.{length, get_or, drop, length-append, drop_of_length-le}
 use lib.Seq.{drop-cons, drop-drop}
 use lib.Dec.{eqb}
@@ -22,24 +22,28 @@ use Rattle.fates_book.specs.declared.End.TheVariants.{Accepted, Denied, Withdraw
 use Rattle.fates_book.specs.declared.Line.{Line}
 use Rattle.fates_book.specs.declared.Line.TheVariants.{Began, Went}
 use Rattle.fates_book.specs.Lines.{asker, parting, end_line, up_line, line_at, records_in, lines_in, opening_lines}
-use Rattle.fates_register.specs.Register.{page_of, open_on, entered, entered_all}
+use Rattle.std.specs.List.{range_with_len, sum}
+use Rattle.std.proofs.lemmas.List.Sums.{sum_by-cons}
+use Rattle.paper.specs.Saps.{most_open}
+use Rattle.fates_register.specs.Register.{free_from, page_of, places_of, open_on, entered, entered_all}
 use Rattle.fates_register.proofs.Laws.{entered_append}
 use Rattle.fates_report.specs.Report.{word_call, word_of, word_still_open, spaced_number, numbers, indication_line, open_lines, end_text, line_text}
 use Rattle.fates_report.specs.Report.{all_text, end_texts, open_on_all, spaced_size, fate_size, indication_size, per_byte, Telling, TellingOf}
 
 -- ---- numbers
 
-pub numbers-end : (k c : ℕ) (l : List ℕ) → k ≤ 0 → numbers k c l ≡ []
+pub numbers_end : (k j c : ℕ) (l : List ℕ) → k ≤ j → numbers (k - j) (c + j) l ≡ []
 unfolding numbers
-numbers-end zero c l h = refl
-numbers-end (suc k) c l h = absurd (omega arith)
-
-pub numbers-next : (k c : ℕ) (l : List ℕ) → 0 < k → numbers k c l ≡ spaced_number (get_or l c 0) ++ numbers (k - 1) (c + 1) l
-unfolding numbers
-numbers-next zero c l h = absurd (omega arith)
-numbers-next (suc k) c l h =
-    let e : suc k - 1 ≡ k = omega arith in
+numbers_end k j c l h =
+    let e : k - j ≡ zero = omega arith in
     rw e
+
+pub numbers_next : (k j c : ℕ) (l : List ℕ) → j < k → numbers (k - j) (c + j) l ≡ spaced_number (get_or l (c + j) 0) ++ numbers (k - (j + 1)) (c + (j + 1)) l
+unfolding numbers
+numbers_next k j c l h =
+    let e : k - j ≡ suc (k - (j + 1)) = omega arith in
+    let f : c + j + 1 ≡ c + (j + 1) = omega arith in
+    rw (e, f)
 
 numbers-most : (k c : ℕ) (l : List ℕ) → length (numbers k c l) ≤ spaced_size * k
 unfolding numbers
@@ -81,17 +85,21 @@ ends_next n i l h =
     let e : n - i ≡ suc (n - (i + 1)) = omega arith in
     ap (λ (k : ℕ). end_texts k i l) e
 
-pub sum_end : (n i : ℕ) (l : List ℕ) → n ≤ i → open_on_all (n - i) i l ≡ 0
+-- how many are open on them, one stream behind the other
+pub all_open : (n i : ℕ) (l : List ℕ) → sum (map (λ (j : ℕ). open_on j l) (range_with_len i n)) ≡ open_on_all n i l
 unfolding open_on_all
-sum_end n i l h =
-    let e : n - i ≡ zero = omega arith in
-    ap (λ (k : ℕ). open_on_all k i l) e
+all_open zero i l = refl
+all_open (suc n) i l = sum_by-cons (λ (j : ℕ). j) (open_on i l) (map (λ (j : ℕ). open_on j l) (range_with_len (i + 1) n)) ∙ ap (λ (k : ℕ). open_on i l + k) (all_open n (i + 1) l)
 
-pub sum_next : (n i : ℕ) (l : List ℕ) → i < n → open_on_all (n - i) i l ≡ open_on i l + open_on_all (n - (i + 1)) (i + 1) l
+free_most : (k c : ℕ) (l : List ℕ) → free_from k c l ≤ c + k * 2
+unfolding free_from
+free_most zero c l = omega arith
+free_most (suc k) c l = chosen (λ (r : ℕ). r ≤ c + suc k * 2) _ _ _ (λ e. omega arith) (λ e. omega (arith, free_most k (c + 2) l))
+
+pub open-most : (n i : ℕ) (l : List ℕ) → open_on_all n i l ≤ n * most_open
 unfolding open_on_all
-sum_next n i l h =
-    let e : n - i ≡ suc (n - (i + 1)) = omega arith in
-    ap (λ (k : ℕ). open_on_all k i l) e
+open-most zero i l = omega arith
+open-most (suc n) i l = omega (arith, free_most most_open (places_of i) l, open-most n (i + 1) l)
 
 -- ---- how long the line of a record is
 

@@ -40,12 +40,8 @@ fn put_numbers(out: &mut [u8], at: usize, register: &[u64], c: usize, k: usize) 
     ensures { WroteMost (spaced_size * k) (numbers k c register.now) at result out.old out.new }
 {
     let mut e = at;
-    let mut cell = c;
-    let mut left = k;
-    while 0 < left {
-        e = put_spaced(out, e, register[cell]);
-        cell += 1;
-        left -= 1;
+    for n in &register[c..c + k] {
+        e = put_spaced(out, e, *n);
     }
     e
 }
@@ -88,16 +84,13 @@ fn put_still_open(out: &mut [u8], at: usize, register: &[u64], i: usize) -> usiz
     requires { StreamRoom i register.now (most_open * indication_size) at out.old }
     ensures { WroteMost (most_open * indication_size) (open_lines most_open i (places_of i) register.now) at result out.old out.new }
 {
+    let page = i * fates_register::PAGE_SIZE;
     let mut e = at;
-    let mut c = i * fates_register::PAGE_SIZE + fates_register::COUNT_TOTAL;
-    let mut left = paper::MOST_OPEN;
-    while 0 < left {
+    for c in (page + fates_register::COUNT_TOTAL..page + fates_register::PLACES_END).step_by(2) {
         if register[c] == 0 {
-            return e;
+            break;
         }
         e = put_indication(out, e, register, i, c, b" open");
-        c += 2;
-        left -= 1;
     }
     e
 }
@@ -180,10 +173,8 @@ fn put_ends(out: &mut [u8], at: usize, register: &[u64]) -> usize
     ensures { WroteMost ends_size (end_texts stream_total 0 register.now) at result out.old out.new }
 {
     let mut e = at;
-    let mut i: usize = 0;
-    while i < paper::STREAM_TOTAL {
+    for i in 0..paper::STREAM_TOTAL {
         e = put_end(out, e, register, i);
-        i += 1;
     }
     e
 }
@@ -193,13 +184,9 @@ fn open_on_all(register: &[u64]) -> u64
     requires { length register.now ≡ register_size }
     ensures { result ≡ open_on_all stream_total 0 register.now }
 {
-    let mut sum: u64 = 0;
-    let mut i: usize = 0;
-    while i < paper::STREAM_TOTAL {
-        sum += fates_register::open_on(register, i);
-        i += 1;
-    }
-    sum
+    (0..paper::STREAM_TOTAL)
+        .map(|i| fates_register::open_on(register, i))
+        .sum()
 }
 
 // 'total openings calls accepted denied withdrawn dropped open'
