@@ -66,16 +66,15 @@ fn put_indication(
     text::put_word(out, f, b"\n")
 }
 
-// The line of one that ended.
-fn put_ended(out: &mut [u8], at: usize, register: &[u64], i: usize, c: usize, end: End) -> usize
-    requires { PlaceRoom i c register.now indication_size at out.old }
-    ensures { WroteMost indication_size (indication_line i c (word_of end) register.now) at result out.old out.new }
+// The word for an end.
+fn word_of(end: End) -> &'static [u8]
+    ensures { result.now ≡ word_of end }
 {
     match end {
-        End::Accepted => put_indication(out, at, register, i, c, b" accepted"),
-        End::Denied => put_indication(out, at, register, i, c, b" denied"),
-        End::Withdrawn => put_indication(out, at, register, i, c, b" withdrawn"),
-        End::Dropped => put_indication(out, at, register, i, c, b" dropped"),
+        End::Accepted => b" accepted",
+        End::Denied => b" denied",
+        End::Withdrawn => b" withdrawn",
+        End::Dropped => b" dropped",
     }
 }
 
@@ -125,45 +124,29 @@ fn put_end(out: &mut [u8], at: usize, register: &[u64], i: usize) -> usize
     put_opening(out, a, register, i)
 }
 
-// A stream is opened anew: its opening before ends.
-fn put_began(out: &mut [u8], at: usize, register: &[u64], i: u8) -> usize
-    requires { RegisterRoom register.now end_size at out.old }
-    ensures { WroteMost end_size (line_text (Began i) register.now) at result out.old out.new }
-{
-    let stream = i as usize;
-    if stream < paper::STREAM_TOTAL {
-        return put_end(out, at, register, stream);
-    }
-    at
-}
-
 // An indication ended that stands in the register.
-fn put_went(out: &mut [u8], at: usize, register: &[u64], i: u8, n: u32, end: End) -> usize
-    requires { RegisterRoom register.now indication_size at out.old }
+fn put_went(out: &mut [u8], at: usize, register: &[u64], i: usize, n: u32, end: End) -> usize
+    requires { StreamRoom i register.now indication_size at out.old }
     ensures { WroteMost indication_size (line_text (Went i n end) register.now) at result out.old out.new }
 {
-    let stream = i as usize;
-    if paper::STREAM_TOTAL <= stream {
-        return at;
-    }
-    let c = fates_register::place_of(register, stream, n);
-    if c < stream * fates_register::PAGE_SIZE + fates_register::PLACES_END {
-        return put_ended(out, at, register, stream, c, end);
+    let c = fates_register::place_of(register, i, n);
+    if c < i * fates_register::PAGE_SIZE + fates_register::PLACES_END {
+        return put_indication(out, at, register, i, c, word_of(end));
     }
     at
 }
 
-// What is printed when a line of the history is entered.
+// What is printed when a line of the history is entered: of an opening anew the opening before, of an indication that ended its line.
 fn put_line(out: &mut [u8], at: usize, register: &[u64], y: Line) -> usize
     requires { RegisterRoom register.now end_size at out.old }
     ensures { WroteMost end_size (line_text y register.now) at result out.old out.new }
 {
     match y {
-        Line::Began(i) => put_began(out, at, register, i),
-        Line::Came(_, _) => at,
-        Line::Went(i, n, end) => put_went(out, at, register, i, n, end),
-        Line::Given(_, _) => at,
-        Line::Nothing => at,
+        Line::Began(i) if fates_register::has_page(i) => put_end(out, at, register, i as usize),
+        Line::Went(i, n, end) if fates_register::has_page(i) => {
+            put_went(out, at, register, i as usize, n, end)
+        }
+        _ => at,
     }
 }
 
