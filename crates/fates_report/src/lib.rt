@@ -214,10 +214,10 @@ fn tell_records(register: &mut [u64], out: &mut [u8], at: usize, q: Input, writt
     ensures { TellingOf records_size (lines_written q written.now) at result out.old out.new register.old register.new }
 {
     let mut e = at;
-    let mut i = 0;
-    while i < written.len() {
-        e = tell(register, out, e, fates_book::line_at(q, &written[i..]));
-        i += paper::size_out(written[i]);
+    let mut rest = written;
+    while !rest.is_empty() {
+        e = tell(register, out, e, fates_book::line_at(q, rest));
+        rest = replay_transcript::behind_first(rest);
     }
     e
 }

@@ -15,7 +15,7 @@ pub sum-requires-clause-fits : goal.sum-requires-clause-fits
 sum-requires-clause-fits c =
     let g = c.args.register.now in
     let all = all_open stream_total 0 g in
-    fits_from_yields_list c.map.result _
+    fits_from_yields_list c.map.result 18446744073709551616
     (YieldsList-from_map _ (λ (i : ℕ). open_on i g) (YieldsList-at c.map.ensures.source (YieldsList-from_range 0 stream_total stream_total refl refl)) c.map.ensures.closure (λ x r q k. search (rules, tests))) (omega (arith, all, open-most stream_total 0 g))
 
 pub returns : goal.returns

@@ -26,11 +26,6 @@ loop-n-init c =
       rest = rw (sub-zero a.k, none) (all_unwritten a.out.now a.at (numbers a.k a.c a.register.now));
     }
 
-pub put_spaced-e-requires : goal.put_spaced-e-requires
-put_spaced-e-requires c =
-    let a = c.args in
-    omega (arith, cells a.c a.k a.register.now (omega arith))
-
 pub loop-n-preserved : goal.loop-n-preserved
 loop-n-preserved c =
     let l = c.loop-n in
