@@ -40,19 +40,14 @@ fn asker(q: Input) -> u8
     ensures { result ≡ asker q }
 {
     match q {
-        Input::Unreadable => 0,
-        Input::Malformed => 0,
-        Input::AddPpa(_) => 0,
-        Input::Open => 0,
-        Input::Close(i) => i,
-        Input::Message(i, _, _) => i,
-        Input::CallArrives(_, _) => 0,
-        Input::PeerAccepted(i) => i,
-        Input::PeerGone(i, _) => i,
-        Input::CallWithdrawn(i, _, _) => i,
-        Input::PeerReset(i, _) => i,
-        Input::ResetConfirmed(i) => i,
-        Input::Frame(_) => 0,
+        Input::Close(i)
+        | Input::Message(i, _, _)
+        | Input::PeerAccepted(i)
+        | Input::PeerGone(i, _)
+        | Input::CallWithdrawn(i, _, _)
+        | Input::PeerReset(i, _)
+        | Input::ResetConfirmed(i) => i,
+        _ => 0,
     }
 }
 
@@ -61,19 +56,8 @@ fn parting(q: Input) -> End
     ensures { result ≡ parting q }
 {
     match q {
-        Input::Unreadable => End::Denied,
-        Input::Malformed => End::Denied,
-        Input::AddPpa(_) => End::Denied,
-        Input::Open => End::Denied,
         Input::Close(_) => End::Dropped,
-        Input::Message(_, _, _) => End::Denied,
-        Input::CallArrives(_, _) => End::Denied,
-        Input::PeerAccepted(_) => End::Denied,
-        Input::PeerGone(_, _) => End::Denied,
-        Input::CallWithdrawn(_, _, _) => End::Denied,
-        Input::PeerReset(_, _) => End::Denied,
-        Input::ResetConfirmed(_) => End::Denied,
-        Input::Frame(_) => End::Denied,
+        _ => End::Denied,
     }
 }
 
@@ -92,17 +76,12 @@ fn up_line(b: &[u8]) -> Line
     ensures { result ≡ up_line b.now }
 {
     let i = octets::byte_at(b, 1);
-    let code = octets::number32_at(b, HEAD_SIZE);
-    if code == 0x04 {
-        return Line::Given(i, octets::number32_at(b, GRANTED_AT));
+    match octets::number32_at(b, HEAD_SIZE) {
+        0x04 => Line::Given(i, octets::number32_at(b, GRANTED_AT)),
+        0x0e => Line::Came(i, octets::number32_at(b, NUMBER_AT)),
+        0x14 => end_line(i, octets::number32_at(b, ENDED_AT), End::Withdrawn),
+        _ => Line::Nothing,
     }
-    if code == 0x0e {
-        return Line::Came(i, octets::number32_at(b, NUMBER_AT));
-    }
-    if code == 0x14 {
-        return end_line(i, octets::number32_at(b, ENDED_AT), End::Withdrawn);
-    }
-    Line::Nothing
 }
 
 // The record written at the start of b, in the call that was lent q. An order a names the stream that carries the call; the
@@ -113,15 +92,10 @@ pub fn line_at(q: Input, b: &[u8]) -> Line
     let kind = octets::byte_at(b, 0);
     let named = octets::byte_at(b, 1);
     let n = octets::number32_at(b, START_SIZE);
-    if kind == b'a' {
-        let from = asker(q);
-        return Line::Went(from, n, End::Accepted);
+    match kind {
+        b'a' => Line::Went(asker(q), n, End::Accepted),
+        b'd' => end_line(named, n, parting(q)),
+        _ if paper::is_message(kind) => up_line(b),
+        _ => Line::Nothing,
     }
-    if kind == b'd' {
-        return end_line(named, n, parting(q));
-    }
-    if paper::is_message(kind) {
-        return up_line(b);
-    }
-    Line::Nothing
 }

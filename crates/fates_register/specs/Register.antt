@@ -5,7 +5,7 @@
 --   6 to 21   those still open, the oldest first: of each its place in the opening, 1 for the first, and its number; then zeros
 --   22, 23    zeros
 -- and behind those, from 384 on, a page for the whole table: 0 to 5 over all openings of all streams.
-use Rattle.std.specs.Prelude.{ℕ, zero, suc, ◌+◌, ◌*◌, ◌-◌, ◌/◌, ◌≤◌, ◌<◌, ◌≡◌, List, [], ◌∷◌, length, get_or, set, replicate, eqb, ltb}
+use Rattle.std.specs.Prelude.{ℕ, Bool, zero, suc, ◌+◌, ◌*◌, ◌-◌, ◌/◌, ◌≤◌, ◌<◌, ◌≡◌, List, [], ◌∷◌, length, get_or, set, replicate, eqb, ltb}
 use Rattle.ledger.specs.Choice.{both, ◌⇒◌∣◌}
 use Rattle.paper.specs.Base.{stream_total}
 use Rattle.paper.specs.Saps.{most_open}
@@ -94,6 +94,18 @@ close_up (suc k) c l = close_up k (c + 1) (set l c (get_or l (c + 2) 0))
 unfoldable pub cleared : ℕ → ℕ → List ℕ → List ℕ
 cleared zero c l = l
 cleared (suc k) c l = cleared k (c + 1) (set l c 0)
+
+-- the cell of the first of k places whose two cells pass the test, or the cell behind them
+unfoldable pub first_from : (ℕ → ℕ → Bool) → ℕ → ℕ → List ℕ → ℕ
+first_from test zero c l = c
+first_from test (suc k) c l = test (get_or l c 0) (get_or l (c + 1) 0) ⇒ c ∣ first_from test k (c + 2) l
+
+-- what answers of two cells answers as the test
+abbrev pub Tells : (ℕ → ℕ → Bool → Type 0) → (ℕ → ℕ → Bool) → Type 0
+Tells answers test = (x y : ℕ) (b : Bool) → answers x y b → b ≡ test x y
+
+abbrev pub first_place : (ℕ → ℕ → Bool) → ℕ → List ℕ → ℕ
+first_place test i l = first_from test most_open (places_of i) l
 
 abbrev pub first_free : ℕ → List ℕ → ℕ
 first_free i l = free_from most_open (places_of i) l

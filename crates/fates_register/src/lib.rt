@@ -1,13 +1,13 @@
 // The register of indications: what it keeps stands in specs/.
 #![tactic(auto)]
 
-ghost use Rattle.std.specs.Prelude.{◌≡◌, ◌+◌, ◌*◌, ◌<◌, eqb, ltb, length, get_or};
-ghost use Rattle.ledger.specs.Choice.{both};
+ghost use Rattle.std.specs.Prelude.{◌≡◌, ◌+◌, ◌*◌, ℕ, Bool, ltb, length};
 ghost use Rattle.fates_book.specs.Book.{count_of};
-ghost use Rattle.fates_register.specs.Register.{one_more, raised, counting, close_up, cleared, first_free, place_of, open_on};
+ghost use Rattle.fates_register.specs.Register.{one_more, raised, counting, close_up, cleared, first_free, place_of, open_on, first_place, Tells};
 ghost use Rattle.fates_register.specs.Register.{begun, placed, rung, removed, gone, entered};
 ghost use Rattle.fates_register.specs.Register.{end_total, newest_size, register_size, OfStream, CountOf, CellsOf, PlaceIn};
 ghost use Rattle.ledger.specs.Few.{Few};
+ghost use Rattle.paper.specs.Base.{stream_total};
 ghost use Rattle.paper.specs.Saps.{most_open};
 
 use fates_book::{End, Line};
@@ -26,17 +26,12 @@ const NEWEST_SIZE: usize = PLACES_END - 1;
 pub const TOTALS_AT: usize = paper::STREAM_TOTAL * PAGE_SIZE;
 // It is the last.
 pub const REGISTER_SIZE: usize = TOTALS_AT + PAGE_SIZE;
-// No count goes further.
-const MOST_COUNT: u64 = 0xffffffffffffffff;
 
 // One more, up to the largest number of 64 bits.
 fn one_more(n: u64) -> u64
     ensures { result ≡ one_more n }
 {
-    if n == MOST_COUNT {
-        return n;
-    }
-    n + 1
+    n.saturating_add(1)
 }
 
 // Count k of a page is one more.
@@ -56,29 +51,27 @@ fn count(register: &mut [u64], i: usize, k: usize)
     raise(register, TOTALS_AT, k);
 }
 
+// The cell of the first place of stream i that is looked for, by what stands in its two cells; or the cell behind its places.
+fn first_place<F: Fn(u64, u64) -> bool>(register: &[u64], i: usize, is_it: F) -> usize
+    requires stream { OfStream i register.now }
+    requires calls { F.IsAlwaysCallable is_it }
+    ensures { (test : ℕ → ℕ → Bool) → Tells (F.post is_it) test → PlaceIn i (first_place test i register.now) result }
+{
+    let end = i * PAGE_SIZE + PLACES_END;
+    for c in (i * PAGE_SIZE + COUNT_TOTAL..end).step_by(2) {
+        if is_it(register[c], register[c + 1]) {
+            return c;
+        }
+    }
+    end
+}
+
 // The cell of the first free place of stream i, or the cell behind its places.
 fn first_free(register: &[u64], i: usize) -> usize
     requires { OfStream i register.now }
     ensures { PlaceIn i (first_free i register.now) result }
 {
-    let mut c = i * PAGE_SIZE + COUNT_TOTAL;
-    let mut left = paper::MOST_OPEN;
-    while 0 < left {
-        if register[c] == 0 {
-            return c;
-        }
-        c += 2;
-        left -= 1;
-    }
-    c
-}
-
-// The place at a cell is taken, by number n.
-fn holds(register: &[u64], c: usize, n: u32) -> bool
-    requires { c + 1 < length register.now }
-    ensures { result ≡ both (ltb 0 (get_or register.now c 0)) (eqb (get_or register.now (c + 1) 0) n) }
-{
-    0 < register[c] && register[c + 1] == n as u64
+    first_place(register, i, |at, _| at == 0)
 }
 
 // The cell of the first place of stream i that number n has, or the cell behind its places.
@@ -86,16 +79,7 @@ pub fn place_of(register: &[u64], i: usize, n: u32) -> usize
     requires { OfStream i register.now }
     ensures { PlaceIn i (place_of i n register.now) result }
 {
-    let mut c = i * PAGE_SIZE + COUNT_TOTAL;
-    let mut left = paper::MOST_OPEN;
-    while 0 < left {
-        if holds(register, c, n) {
-            return c;
-        }
-        c += 2;
-        left -= 1;
-    }
-    c
+    first_place(register, i, |at, number| 0 < at && number == n as u64)
 }
 
 // How many indications are open on stream i.
@@ -112,13 +96,7 @@ fn clear(register: &mut [u64], at: usize)
     requires { CellsOf at newest_size register.old }
     ensures { register.new ≡ cleared newest_size at register.old }
 {
-    let mut c = at;
-    let mut left = NEWEST_SIZE;
-    while 0 < left {
-        register[c] = 0;
-        c += 1;
-        left -= 1;
-    }
+    register[at..at + NEWEST_SIZE].fill(0);
 }
 
 fn begin(register: &mut [u64], i: usize)
@@ -155,13 +133,7 @@ fn close_up(register: &mut [u64], at: usize, k: usize)
     requires { CellsOf at (k + 2) register.old }
     ensures { register.new ≡ close_up k at register.old }
 {
-    let mut c = at;
-    let mut left = k;
-    while 0 < left {
-        register[c] = register[c + 2];
-        c += 1;
-        left -= 1;
-    }
+    register.copy_within(at + 2..at + 2 + k, at);
 }
 
 // One that ended gives up its place; the later ones move down.
@@ -195,34 +167,22 @@ fn leave(register: &mut [u64], i: usize, n: u32, e: End)
     remove(register, i, n);
 }
 
+// Whether a stream is of the table, and so has a page.
+pub fn has_page(i: u8) -> bool
+    ensures { result ≡ ltb i stream_total }
+{
+    (i as usize) < paper::STREAM_TOTAL
+}
+
 // What a line changes. A stream past the last of the table has no page.
 pub fn enter(register: &mut [u64], y: Line)
     requires { length register.old ≡ register_size }
     ensures { register.new ≡ entered y register.old }
 {
     match y {
-        Line::Began(i) => {
-            let stream = i as usize;
-            if paper::STREAM_TOTAL <= stream {
-                return;
-            }
-            begin(register, stream);
-        }
-        Line::Came(i, n) => {
-            let stream = i as usize;
-            if paper::STREAM_TOTAL <= stream {
-                return;
-            }
-            ring(register, stream, n);
-        }
-        Line::Went(i, n, e) => {
-            let stream = i as usize;
-            if paper::STREAM_TOTAL <= stream {
-                return;
-            }
-            leave(register, stream, n, e);
-        }
-        Line::Given(_, _) => {}
-        Line::Nothing => {}
+        Line::Began(i) if has_page(i) => begin(register, i as usize),
+        Line::Came(i, n) if has_page(i) => ring(register, i as usize, n),
+        Line::Went(i, n, e) if has_page(i) => leave(register, i as usize, n, e),
+        _ => {}
     }
 }

@@ -3,9 +3,8 @@ use Prim.Native.Nat.{ℕ, zero, suc, ◌+◌, ◌-◌, ◌*◌, ◌≤◌, ◌<�
 use native.Mathlib.Omega.{arith}
 use mathlib.Core.Path.{◌≡◌, refl, sym, ap, ◌∙◌}
 use mathlib.Core.Bool.{true}
-use mathlib.Core.List.{List, [], ◌∷◌, ◌++◌, append_assoc, append-nil}
-use lib.ListN.{length, get_or, drop, length-append, drop_of_length-le}
-use lib.Seq.{drop-cons, drop-drop}
+use mathlib.Core.List.{List, [], ◌∷◌, ◌++◌, append_assoc, append-nil, map}
+use lib.ListN.{length, get_or, drop, length-append, length-drop}
 use lib.Dec.{eqb}
 use borrow.Author.Tests.{eqb-true, eq-eqb, ne_eqb}
 use Rattle.ledger.specs.Choice.{◌⇒◌∣◌}
@@ -22,24 +21,28 @@ use Rattle.fates_book.specs.declared.End.TheVariants.{Accepted, Denied, Withdraw
 use Rattle.fates_book.specs.declared.Line.{Line}
 use Rattle.fates_book.specs.declared.Line.TheVariants.{Began, Went}
 use Rattle.fates_book.specs.Lines.{asker, parting, end_line, up_line, line_at, records_in, lines_in, opening_lines}
-use Rattle.fates_register.specs.Register.{page_of, open_on, entered, entered_all}
+use Rattle.std.specs.List.{range_with_len, sum}
+use Rattle.std.proofs.lemmas.List.Sums.{sum_by-cons}
+use Rattle.paper.specs.Saps.{most_open}
+use Rattle.fates_register.specs.Register.{free_from, page_of, places_of, open_on, entered, entered_all}
 use Rattle.fates_register.proofs.Laws.{entered_append}
 use Rattle.fates_report.specs.Report.{word_call, word_of, word_still_open, spaced_number, numbers, indication_line, open_lines, end_text, line_text}
 use Rattle.fates_report.specs.Report.{all_text, end_texts, open_on_all, spaced_size, fate_size, indication_size, per_byte, Telling, TellingOf}
 
 -- ---- numbers
 
-pub numbers-end : (k c : ℕ) (l : List ℕ) → k ≤ 0 → numbers k c l ≡ []
+pub numbers_end : (k j c : ℕ) (l : List ℕ) → k ≤ j → numbers (k - j) (c + j) l ≡ []
 unfolding numbers
-numbers-end zero c l h = refl
-numbers-end (suc k) c l h = absurd (omega arith)
-
-pub numbers-next : (k c : ℕ) (l : List ℕ) → 0 < k → numbers k c l ≡ spaced_number (get_or l c 0) ++ numbers (k - 1) (c + 1) l
-unfolding numbers
-numbers-next zero c l h = absurd (omega arith)
-numbers-next (suc k) c l h =
-    let e : suc k - 1 ≡ k = omega arith in
+numbers_end k j c l h =
+    let e : k - j ≡ zero = omega arith in
     rw e
+
+pub numbers_next : (k j c : ℕ) (l : List ℕ) → j < k → numbers (k - j) (c + j) l ≡ spaced_number (get_or l (c + j) 0) ++ numbers (k - (j + 1)) (c + (j + 1)) l
+unfolding numbers
+numbers_next k j c l h =
+    let e : k - j ≡ suc (k - (j + 1)) = omega arith in
+    let f : c + j + 1 ≡ c + (j + 1) = omega arith in
+    rw (e, f)
 
 numbers-most : (k c : ℕ) (l : List ℕ) → length (numbers k c l) ≤ spaced_size * k
 unfolding numbers
@@ -81,17 +84,21 @@ ends_next n i l h =
     let e : n - i ≡ suc (n - (i + 1)) = omega arith in
     ap (λ (k : ℕ). end_texts k i l) e
 
-pub sum_end : (n i : ℕ) (l : List ℕ) → n ≤ i → open_on_all (n - i) i l ≡ 0
+-- how many are open on them, one stream behind the other
+pub all_open : (n i : ℕ) (l : List ℕ) → sum (map (λ (j : ℕ). open_on j l) (range_with_len i n)) ≡ open_on_all n i l
 unfolding open_on_all
-sum_end n i l h =
-    let e : n - i ≡ zero = omega arith in
-    ap (λ (k : ℕ). open_on_all k i l) e
+all_open zero i l = refl
+all_open (suc n) i l = sum_by-cons (λ (j : ℕ). j) (open_on i l) (map (λ (j : ℕ). open_on j l) (range_with_len (i + 1) n)) ∙ ap (λ (k : ℕ). open_on i l + k) (all_open n (i + 1) l)
 
-pub sum_next : (n i : ℕ) (l : List ℕ) → i < n → open_on_all (n - i) i l ≡ open_on i l + open_on_all (n - (i + 1)) (i + 1) l
+free_most : (k c : ℕ) (l : List ℕ) → free_from k c l ≤ c + k * 2
+unfolding free_from
+free_most zero c l = omega arith
+free_most (suc k) c l = chosen (λ (r : ℕ). r ≤ c + suc k * 2) _ _ _ (λ e. omega arith) (λ e. omega (arith, free_most k (c + 2) l))
+
+pub open-most : (n i : ℕ) (l : List ℕ) → open_on_all n i l ≤ n * most_open
 unfolding open_on_all
-sum_next n i l h =
-    let e : n - i ≡ suc (n - (i + 1)) = omega arith in
-    ap (λ (k : ℕ). open_on_all k i l) e
+open-most zero i l = omega arith
+open-most (suc n) i l = omega (arith, free_most most_open (places_of i) l, open-most n (i + 1) l)
 
 -- ---- how long the line of a record is
 
@@ -158,32 +165,27 @@ said_most q b l =
 
 -- ---- the records of a call
 
--- where no bytes are left there are no lines
-lines_end : (k : ℕ) (q : Input) (b : List ℕ) (i : ℕ) → length b ≤ i → lines_in k q (drop i b) ≡ []
+-- where no records are left there are no lines
+lines_end : (k : ℕ) (q : Input) (b : List ℕ) → length b ≤ 0 → lines_in k q b ≡ []
 unfolding records_in
-lines_end k q b i h = ap (lines_in k q) (drop_of_length-le b h) ∙ none k where
-  none : (j : ℕ) → lines_in j q [] ≡ []
-  none zero = refl
-  none (suc j) = refl
+lines_end zero q b h = refl
+lines_end (suc k) q [] h = refl
+lines_end (suc k) q (x ∷ b) h = absurd (omega arith)
 
 -- else that of the first record, and those of the rest
-lines_next : (k : ℕ) (q : Input) (b : List ℕ) (i : ℕ) → i < length b
-    → lines_in (suc k) q (drop i b) ≡ line_at q (drop i b) ∷ lines_in k q (drop (i + size_out (get_or b i 0)) b)
+lines_next : (k : ℕ) (q : Input) (b : List ℕ) → 0 < length b → lines_in (suc k) q b ≡ line_at q b ∷ lines_in k q (drop (size_out (get_or b 0 0)) b)
 unfolding records_in
-lines_next k q b i h =
-    let e : drop i b ≡ get_or b i 0 ∷ drop (suc i) b = drop-cons b i 0 h in
-    ap (lines_in (suc k) q) e
-    ∙ ap (λ (l : List ℕ). line_at q l ∷ lines_in k q (drop (size_out (get_or b i 0)) l)) (sym e)
-    ∙ ap (λ (l : List ℕ). line_at q (drop i b) ∷ lines_in k q l) (drop-drop (size_out (get_or b i 0)) i b)
+lines_next k q [] h = absurd (omega arith)
+lines_next k q (x ∷ b) h = refl
 
--- k lines at most are still to be told, of the bytes from i on
-pub record StillTelling (out₀ : List ℕ) (at : ℕ) (ys : List Line) (l₀ : List ℕ) (q : Input) (b out : List ℕ) (e i : ℕ) (l : List ℕ) : Type 0 where
+-- k lines at most are still to be told, of the records that are left
+pub record StillTelling (out₀ : List ℕ) (at : ℕ) (ys : List Line) (l₀ : List ℕ) (q : Input) (b out : List ℕ) (e : ℕ) (l : List ℕ) : Type 0 where
   pub k : ℕ
-  pub enough : length b ≤ i + k
-  pub text : Unwritten out₀ at (all_text ys l₀) out e (all_text (lines_in k q (drop i b)) l)
-  pub register : entered_all ys l₀ ≡ entered_all (lines_in k q (drop i b)) l
+  pub enough : length b ≤ k
+  pub text : Unwritten out₀ at (all_text ys l₀) out e (all_text (lines_in k q b) l)
+  pub register : entered_all ys l₀ ≡ entered_all (lines_in k q b) l
 
-pub all_telling : (out : List ℕ) (at : ℕ) (q : Input) (b l : List ℕ) → StillTelling out at (lines_in (length b) q b) l q b out at 0 l
+pub all_telling : (out : List ℕ) (at : ℕ) (q : Input) (b l : List ℕ) → StillTelling out at (lines_in (length b) q b) l q b out at l
 all_telling out at q b l = record {
   k = length b;
   enough = omega arith;
@@ -192,24 +194,24 @@ all_telling out at q b l = record {
 }
 
 -- a line was told
-pub less-telling : {out₀ : List ℕ} {at : ℕ} {ys : List Line} {l₀ : List ℕ} {q : Input} {b out : List ℕ} {e i : ℕ} {l out' : List ℕ} {e' most : ℕ}
-    {l' : List ℕ} (y : Line) (size : ℕ)
-    → StillTelling out₀ at ys l₀ q b out e i l → i < length b → e ≤ length out
-    → y ≡ line_at q (drop i b) → size ≡ size_out (get_or b i 0)
+pub less-telling : {out₀ : List ℕ} {at : ℕ} {ys : List Line} {l₀ : List ℕ} {q : Input} {b out : List ℕ} {e : ℕ} {l out' : List ℕ} {e' most : ℕ}
+    {l' : List ℕ} (y : Line)
+    → StillTelling out₀ at ys l₀ q b out e l → 0 < length b → e ≤ length out → y ≡ line_at q b
     → Telling most (line_text y l) (entered y l) e e' out out' l'
-    → StillTelling out₀ at ys l₀ q b out' e' (i + size) l'
+    → StillTelling out₀ at ys l₀ q (drop (size_out (get_or b 0 0)) b) out' e' l'
 unfolding all_text entered_all
-less-telling {out₀} {at} {ys} {l₀} {q} {b} {out} {e} {i} {l} {out'} {e'} {most} {l'} y size t h f p s w = go t.k t.enough t.text t.register
+less-telling {out₀} {at} {ys} {l₀} {q} {b} {out} {e} {l} {out'} {e'} {most} {l'} y t h f p w = go t.k t.enough t.text t.register
   where
-    go : (k : ℕ) → length b ≤ i + k → Unwritten out₀ at (all_text ys l₀) out e (all_text (lines_in k q (drop i b)) l)
-        → entered_all ys l₀ ≡ entered_all (lines_in k q (drop i b)) l → StillTelling out₀ at ys l₀ q b out' e' (i + size) l'
+    go : (k : ℕ) → length b ≤ k → Unwritten out₀ at (all_text ys l₀) out e (all_text (lines_in k q b) l)
+        → entered_all ys l₀ ≡ entered_all (lines_in k q b) l → StillTelling out₀ at ys l₀ q (drop (size_out (get_or b 0 0)) b) out' e' l'
     go zero a c r = absurd (omega (arith, h, a))
     go (suc k) a c r =
-        let rest : List Line = lines_in k q (drop (i + size) b) in
-        let all : lines_in (suc k) q (drop i b) ≡ y ∷ rest = rw (p, s) (lines_next k q b i h) in
+        let size : ℕ = size_out (get_or b 0 0) in
+        let rest : List Line = lines_in k q (drop size b) in
+        let all : lines_in (suc k) q b ≡ y ∷ rest = rw p (lines_next k q b h) in
         record {
           k = k;
-          enough = omega (arith, a, s, size-within (get_or b i 0));
+          enough = omega (arith, a, size-within (get_or b 0 0), length-drop size b);
           text =
               less_unwritten (line_text y l) (all_text rest l') f c
               (ap (λ (x : List Line). all_text x l) all ∙ ap (λ (x : List ℕ). line_text y l ++ all_text rest x) (sym w.entered)) (wrote_of w.wrote);
@@ -217,11 +219,11 @@ less-telling {out₀} {at} {ys} {l₀} {q} {b} {out} {e} {i} {l} {out'} {e'} {mo
         }
 
 -- all are told
-pub none_telling : {out₀ : List ℕ} {at : ℕ} {ys : List Line} {l₀ : List ℕ} {q : Input} {b out : List ℕ} {e i : ℕ} {l : List ℕ} {most : ℕ}
-    → StillTelling out₀ at ys l₀ q b out e i l → length b ≤ i → e ≤ at + most → TellingOf most ys at e out₀ out l₀ l
+pub none_telling : {out₀ : List ℕ} {at : ℕ} {ys : List Line} {l₀ : List ℕ} {q : Input} {b out : List ℕ} {e : ℕ} {l : List ℕ} {most : ℕ}
+    → StillTelling out₀ at ys l₀ q b out e l → length b ≤ 0 → e ≤ at + most → TellingOf most ys at e out₀ out l₀ l
 unfolding all_text entered_all
-none_telling {out₀} {at} {ys} {l₀} {q} {b} {out} {e} {i} {l} t h f =
-    let none = lines_end t.k q b i h in
+none_telling {out₀} {at} {ys} {l₀} {q} {b} {out} {e} {l} t h f =
+    let none = lines_end t.k q b h in
     record {
       wrote = wrote-most f (none_unwritten t.text (ap (λ (x : List Line). all_text x l) none));
       entered = sym (t.register ∙ ap (λ (x : List Line). entered_all x l) none);

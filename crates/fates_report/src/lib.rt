@@ -40,12 +40,8 @@ fn put_numbers(out: &mut [u8], at: usize, register: &[u64], c: usize, k: usize) 
     ensures { WroteMost (spaced_size * k) (numbers k c register.now) at result out.old out.new }
 {
     let mut e = at;
-    let mut cell = c;
-    let mut left = k;
-    while 0 < left {
-        e = put_spaced(out, e, register[cell]);
-        cell += 1;
-        left -= 1;
+    for n in &register[c..c + k] {
+        e = put_spaced(out, e, *n);
     }
     e
 }
@@ -70,16 +66,15 @@ fn put_indication(
     text::put_word(out, f, b"\n")
 }
 
-// The line of one that ended.
-fn put_ended(out: &mut [u8], at: usize, register: &[u64], i: usize, c: usize, end: End) -> usize
-    requires { PlaceRoom i c register.now indication_size at out.old }
-    ensures { WroteMost indication_size (indication_line i c (word_of end) register.now) at result out.old out.new }
+// The word for an end.
+fn word_of(end: End) -> &'static [u8]
+    ensures { result.now ≡ word_of end }
 {
     match end {
-        End::Accepted => put_indication(out, at, register, i, c, b" accepted"),
-        End::Denied => put_indication(out, at, register, i, c, b" denied"),
-        End::Withdrawn => put_indication(out, at, register, i, c, b" withdrawn"),
-        End::Dropped => put_indication(out, at, register, i, c, b" dropped"),
+        End::Accepted => b" accepted",
+        End::Denied => b" denied",
+        End::Withdrawn => b" withdrawn",
+        End::Dropped => b" dropped",
     }
 }
 
@@ -88,16 +83,13 @@ fn put_still_open(out: &mut [u8], at: usize, register: &[u64], i: usize) -> usiz
     requires { StreamRoom i register.now (most_open * indication_size) at out.old }
     ensures { WroteMost (most_open * indication_size) (open_lines most_open i (places_of i) register.now) at result out.old out.new }
 {
+    let page = i * fates_register::PAGE_SIZE;
     let mut e = at;
-    let mut c = i * fates_register::PAGE_SIZE + fates_register::COUNT_TOTAL;
-    let mut left = paper::MOST_OPEN;
-    while 0 < left {
+    for c in (page + fates_register::COUNT_TOTAL..page + fates_register::PLACES_END).step_by(2) {
         if register[c] == 0 {
-            return e;
+            break;
         }
         e = put_indication(out, e, register, i, c, b" open");
-        c += 2;
-        left -= 1;
     }
     e
 }
@@ -132,45 +124,29 @@ fn put_end(out: &mut [u8], at: usize, register: &[u64], i: usize) -> usize
     put_opening(out, a, register, i)
 }
 
-// A stream is opened anew: its opening before ends.
-fn put_began(out: &mut [u8], at: usize, register: &[u64], i: u8) -> usize
-    requires { RegisterRoom register.now end_size at out.old }
-    ensures { WroteMost end_size (line_text (Began i) register.now) at result out.old out.new }
-{
-    let stream = i as usize;
-    if stream < paper::STREAM_TOTAL {
-        return put_end(out, at, register, stream);
-    }
-    at
-}
-
 // An indication ended that stands in the register.
-fn put_went(out: &mut [u8], at: usize, register: &[u64], i: u8, n: u32, end: End) -> usize
-    requires { RegisterRoom register.now indication_size at out.old }
+fn put_went(out: &mut [u8], at: usize, register: &[u64], i: usize, n: u32, end: End) -> usize
+    requires { StreamRoom i register.now indication_size at out.old }
     ensures { WroteMost indication_size (line_text (Went i n end) register.now) at result out.old out.new }
 {
-    let stream = i as usize;
-    if paper::STREAM_TOTAL <= stream {
-        return at;
-    }
-    let c = fates_register::place_of(register, stream, n);
-    if c < stream * fates_register::PAGE_SIZE + fates_register::PLACES_END {
-        return put_ended(out, at, register, stream, c, end);
+    let c = fates_register::place_of(register, i, n);
+    if c < i * fates_register::PAGE_SIZE + fates_register::PLACES_END {
+        return put_indication(out, at, register, i, c, word_of(end));
     }
     at
 }
 
-// What is printed when a line of the history is entered.
+// What is printed when a line of the history is entered: of an opening anew the opening before, of an indication that ended its line.
 fn put_line(out: &mut [u8], at: usize, register: &[u64], y: Line) -> usize
     requires { RegisterRoom register.now end_size at out.old }
     ensures { WroteMost end_size (line_text y register.now) at result out.old out.new }
 {
     match y {
-        Line::Began(i) => put_began(out, at, register, i),
-        Line::Came(_, _) => at,
-        Line::Went(i, n, end) => put_went(out, at, register, i, n, end),
-        Line::Given(_, _) => at,
-        Line::Nothing => at,
+        Line::Began(i) if fates_register::has_page(i) => put_end(out, at, register, i as usize),
+        Line::Went(i, n, end) if fates_register::has_page(i) => {
+            put_went(out, at, register, i as usize, n, end)
+        }
+        _ => at,
     }
 }
 
@@ -180,10 +156,8 @@ fn put_ends(out: &mut [u8], at: usize, register: &[u64]) -> usize
     ensures { WroteMost ends_size (end_texts stream_total 0 register.now) at result out.old out.new }
 {
     let mut e = at;
-    let mut i: usize = 0;
-    while i < paper::STREAM_TOTAL {
+    for i in 0..paper::STREAM_TOTAL {
         e = put_end(out, e, register, i);
-        i += 1;
     }
     e
 }
@@ -193,13 +167,9 @@ fn open_on_all(register: &[u64]) -> u64
     requires { length register.now ≡ register_size }
     ensures { result ≡ open_on_all stream_total 0 register.now }
 {
-    let mut sum: u64 = 0;
-    let mut i: usize = 0;
-    while i < paper::STREAM_TOTAL {
-        sum += fates_register::open_on(register, i);
-        i += 1;
-    }
-    sum
+    (0..paper::STREAM_TOTAL)
+        .map(|i| fates_register::open_on(register, i))
+        .sum()
 }
 
 // 'total openings calls accepted denied withdrawn dropped open'
@@ -244,10 +214,10 @@ fn tell_records(register: &mut [u64], out: &mut [u8], at: usize, q: Input, writt
     ensures { TellingOf records_size (lines_written q written.now) at result out.old out.new register.old register.new }
 {
     let mut e = at;
-    let mut i = 0;
-    while i < written.len() {
-        e = tell(register, out, e, fates_book::line_at(q, &written[i..]));
-        i += paper::size_out(written[i]);
+    let mut rest = written;
+    while !rest.is_empty() {
+        e = tell(register, out, e, fates_book::line_at(q, rest));
+        rest = replay_transcript::behind_first(rest);
     }
     e
 }

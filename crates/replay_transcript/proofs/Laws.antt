@@ -1,12 +1,10 @@
 -- Laws of what replay prints: the fields of a line, lines one behind the other, and what a call's text is read from.
 use Prim.Native.Nat.{ℕ, zero, suc, ◌+◌, ◌-◌, ◌%◌, ◌≤◌, ◌<◌}
-use native.Mathlib.Nat.{add-zero}
 use native.Mathlib.Omega.{arith}
-use mathlib.Core.Path.{◌≡◌, refl, sym, ap, ◌∙◌}
+use mathlib.Core.Path.{◌≡◌, refl, ap}
 use mathlib.Core.Bool.{true}
 use mathlib.Core.List.{List, [], ◌∷◌, ◌++◌}
-use lib.ListN.{length, get_or, take, drop, drop_of_length-le}
-use lib.Seq.{get_or-drop, drop-cons, drop-drop}
+use lib.ListN.{length, get_or, take, drop}
 use Rattle.ledger.specs.Choice.{◌⇒◌∣◌}
 use Rattle.ledger.proofs.Tallies.{chosen, empty}
 use Rattle.octets.specs.Runs.{Bytes}
@@ -41,27 +39,22 @@ spaced-some (x ∷ l) h = refl
 
 -- ---- one line behind the other
 
--- the kind of the record at a place
-pub kind_at : (rs : List ℕ) (i : ℕ) → get_or (drop i rs) 0 0 ≡ get_or rs i 0
-kind_at rs i = get_or-drop i rs 0 0 ∙ ap (λ (k : ℕ). get_or rs k 0) (add-zero i)
-
--- where no bytes are left there are no lines
-pub lines_end : (k n : ℕ) (rs : List ℕ) (i : ℕ) → length rs ≤ i → record_lines k n (drop i rs) ≡ []
+-- where no records are left there are no lines
+pub lines_end : (k n : ℕ) (rs : List ℕ) → length rs ≤ 0 → record_lines k n rs ≡ []
 unfolding record_lines
-lines_end k n rs i h = ap (record_lines k n) (drop_of_length-le rs h) ∙ none k where
-  none : (j : ℕ) → record_lines j n [] ≡ []
-  none zero = refl
-  none (suc j) = refl
+lines_end zero n rs h = refl
+lines_end (suc k) n [] h = refl
+lines_end (suc k) n (x ∷ rs) h = absurd (omega arith)
 
 -- else the line of the first record, and those of the rest
-pub lines_next : (k n : ℕ) (rs : List ℕ) (i : ℕ) → i < length rs
-    → record_lines (suc k) n (drop i rs) ≡ record_line n (drop i rs) ++ record_lines k n (drop (i + size_out (get_or rs i 0)) rs)
+pub lines_next : (k n : ℕ) (rs : List ℕ) → 0 < k → 0 < length rs
+    → record_lines k n rs ≡ record_line n rs ++ record_lines (k - 1) n (drop (size_out (get_or rs 0 0)) rs)
 unfolding record_lines
-lines_next k n rs i h =
-    let e : drop i rs ≡ get_or rs i 0 ∷ drop (suc i) rs = drop-cons rs i 0 h in
-    ap (record_lines (suc k) n) e
-    ∙ ap (λ (l : List ℕ). record_line n l ++ record_lines k n (drop (size_out (get_or rs i 0)) l)) (sym e)
-    ∙ ap (λ (l : List ℕ). record_line n (drop i rs) ++ record_lines k n l) (drop-drop (size_out (get_or rs i 0)) i rs)
+lines_next zero n rs h d = absurd (omega arith)
+lines_next (suc k) n [] h d = absurd (omega arith)
+lines_next (suc k) n (x ∷ rs) h d =
+    let e : suc k - 1 ≡ k = omega arith in
+    rw e
 
 -- ---- a call
 

@@ -113,3 +113,8 @@ call_text_size = per_byte * (frame_room_size + message_size)
 pub record Fits (most : ℕ) (shown : List ℕ) (size at : ℕ) (out : List ℕ) : Type 0 where
   pub short : length shown ≤ most
   pub room : at + size ≤ length out
+
+-- and so is the end of its line
+pub record FitsWith (most : ℕ) (end shown : List ℕ) (size at : ℕ) (out : List ℕ) : Type 0 where
+  pub ends : length end ≤ most
+  pub fits : Fits most shown size at out

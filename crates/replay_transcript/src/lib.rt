@@ -1,11 +1,12 @@
 // What the replay program prints: a line for each record out of a call, the first line and the last.
 #![tactic(auto)]
 
-ghost use Rattle.std.specs.Prelude.{◌≡◌, ◌+◌, ◌≤◌, length, take};
+ghost use Rattle.std.specs.Prelude.{◌≡◌, ◌+◌, ◌++◌, ◌≤◌, length, get_or, take, drop};
+ghost use Rattle.paper.specs.RecordsOut.{size_out};
 ghost use Rattle.octets.specs.Writing.{Wrote, WroteMost};
 ghost use Rattle.paper.specs.Room.{frame_room_size};
-ghost use Rattle.replay_transcript.specs.Transcript.{shown_of, pair, spaced, record_line, all_lines, refused_line, open_line, ok_line, call_text, title, totals};
-ghost use Rattle.replay_transcript.specs.Transcript.{shown_size, word_size, pair_size, line_size, record_line_size, call_text_size, Fits};
+ghost use Rattle.replay_transcript.specs.Transcript.{shown_of, pair, spaced, record_line, all_lines, ok_line, call_text, title, totals};
+ghost use Rattle.replay_transcript.specs.Transcript.{shown_size, word_size, pair_size, line_size, record_line_size, call_text_size, Fits, FitsWith};
 ghost use Rattle.paper.specs.Base.{stream};
 
 // What a line shows behind the stream: of a message its bytes up to L, of other kinds the body's other fields.
@@ -28,7 +29,7 @@ fn put_shown(out: &mut [u8], at: usize, s: &[u8]) -> usize
     requires { at + shown_size s.now ≤ length out.old }
     ensures { WroteMost (shown_size s.now) (spaced s.now) at result out.old out.new }
 {
-    if s.len() == 0 {
+    if s.is_empty() {
         return at;
     }
     let a = text::put_word(out, at, b" ");
@@ -57,36 +58,35 @@ fn put_record(out: &mut [u8], at: usize, n: u64, r: &[u8]) -> usize
     text::put_word(out, b, b"\n")
 }
 
+// What stands behind the first of some records.
+pub fn behind_first<'a>(rs: &'a [u8]) -> &'a [u8]
+    ensures { result.now ≡ drop (size_out (get_or rs.now 0 0)) rs.now }
+{
+    let size = paper::size_out(octets::byte_at(rs, 0));
+    &rs[size.min(rs.len())..]
+}
+
 // The lines of records that stand one behind the other.
 fn put_lines(out: &mut [u8], at: usize, n: u64, rs: &[u8]) -> usize
     requires { Fits frame_room_size rs.now call_text_size at out.old }
     ensures { WroteMost call_text_size (all_lines n rs.now) at result out.old out.new }
 {
     let mut e = at;
-    let mut i = 0;
-    while i < rs.len() {
-        e = put_record(out, e, n, &rs[i..]);
-        i += paper::size_out(rs[i]);
+    let mut rest = rs;
+    while !rest.is_empty() {
+        e = put_record(out, e, n, rest);
+        rest = behind_first(rest);
     }
     e
 }
 
-// 'n refused r'
-fn put_refused(out: &mut [u8], at: usize, n: u64, refusal: u32) -> usize
-    requires { at + line_size ≤ length out.old }
-    ensures { WroteMost line_size (refused_line n refusal) at result out.old out.new }
+// Two numbers with a word between them, and the line's end.
+fn put_pair_line(out: &mut [u8], at: usize, n: u64, word: &[u8], m: u64, end: &[u8]) -> usize
+    requires { FitsWith word_size end.now word.now line_size at out.old }
+    ensures { WroteMost line_size (pair n word.now m ++ end.now) at result out.old out.new }
 {
-    let a = put_pair(out, at, n, b" refused ", refusal as u64);
-    text::put_word(out, a, b"\n")
-}
-
-// 'n open s'
-fn put_open(out: &mut [u8], at: usize, n: u64, stream: u32) -> usize
-    requires { at + line_size ≤ length out.old }
-    ensures { WroteMost line_size (open_line n stream) at result out.old out.new }
-{
-    let a = put_pair(out, at, n, b" open ", stream as u64);
-    text::put_word(out, a, b"\n")
+    let a = put_pair(out, at, n, word, m);
+    text::put_word(out, a, end)
 }
 
 // 'n ok'
@@ -102,11 +102,7 @@ fn put_ok(out: &mut [u8], at: usize, n: u64) -> usize
 pub fn start_of<'a>(room: &'a [u8], n: usize) -> &'a [u8]
     ensures { result.now ≡ take n room.now }
 {
-    let size = room.len();
-    if size < n {
-        return &room[0..size];
-    }
-    &room[0..n]
+    &room[..n.min(room.len())]
 }
 
 // What is printed of the call with a number of its own: from what the call returned, and the room that it left.
@@ -116,11 +112,11 @@ pub fn put_call(out: &mut [u8], at: usize, n: u64, answer: u32, room: &[u8]) -> 
 {
     let refusal = answer / 65536 % 256;
     if 0 < refusal {
-        return put_refused(out, at, n, refusal);
+        return put_pair_line(out, at, n, b" refused ", refusal as u64, b"\n");
     }
     let token = answer / 16777216;
     if 0 < token {
-        return put_open(out, at, n, token - 1);
+        return put_pair_line(out, at, n, b" open ", (token - 1) as u64, b"\n");
     }
     let written = (answer % 65536) as usize;
     if written == 0 {
@@ -142,6 +138,5 @@ pub fn put_totals(out: &mut [u8], at: usize, n: u64, m: u64) -> usize
     requires { at + line_size ≤ length out.old }
     ensures { WroteMost line_size (totals n m) at result out.old out.new }
 {
-    let a = put_pair(out, at, n, b" records, ", m);
-    text::put_word(out, a, b" refused\n")
+    put_pair_line(out, at, n, b" records, ", m, b" refused\n")
 }

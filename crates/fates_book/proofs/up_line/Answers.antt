@@ -1,48 +1,24 @@
--- The tests of the primitive are those of the definition, in their order, and each way reads the field where its message has it.
-use borrow.Author.Tests.{eq-eqb, ne_eqb}
+-- The numbers of the primitives are those of the definition, in their order, and each arm reads the field where its message has it.
+use native.Mathlib.Omega.{arith}
+use borrow.Author.Tests.{ne_eqb}
 use Rattle.ledger.specs.Choice.{◌⇒◌∣◌}
 use Rattle.fates_book.specs.Lines.{up_line}
 use Rattle.fates_book.proofs.up_line.Goals as goal
 
-pub returns-then-code-eq4 : goal.returns-then-code-eq4
+pub returns-in-4 : goal.returns-in-4
 unfolding up_line ◌⇒◌∣◌
-returns-then-code-eq4 c =
-    simp (
-      ← c.byte_at-i.ensures,
-      ← c.number32_at-code.ensures,
-      eq-eqb _ _ c.if-code-eq4.true,
-      ← c.number32_at.ensures,
-    )
+returns-in-4 c = simp (← c.byte_at-i.ensures, ← c.number32_at.ensures, c.in-4.is, ← c.number32_at-in-4.ensures)
 
-pub returns-then-code-eq14 : goal.returns-then-code-eq14
+pub returns-in-14 : goal.returns-in-14
 unfolding up_line ◌⇒◌∣◌
-returns-then-code-eq14 c =
-    simp (
-      ← c.byte_at-i.ensures,
-      ← c.number32_at-code.ensures,
-      ne_eqb _ _ c.if-code-eq4.false,
-      eq-eqb _ _ c.if-code-eq14.true,
-      ← c.number32_at-then-code-eq14.ensures,
-    )
+returns-in-14 c = simp (← c.byte_at-i.ensures, ← c.number32_at.ensures, c.in-14.is, ← c.number32_at-in-14.ensures)
 
-pub returns-then-code-eq20 : goal.returns-then-code-eq20
+pub returns-in-20 : goal.returns-in-20
 unfolding up_line ◌⇒◌∣◌
-returns-then-code-eq20 c =
-    simp (
-      ← c.byte_at-i.ensures,
-      ← c.number32_at-code.ensures,
-      ne_eqb _ _ c.if-code-eq4.false,
-      ne_eqb _ _ c.if-code-eq14.false,
-      eq-eqb _ _ c.if-code-eq20.true,
-      ← c.number32_at-then-code-eq20.ensures,
-    ) c.end_line.ensures
+returns-in-20 c = simp (← c.byte_at-i.ensures, ← c.number32_at.ensures, c.in-20.is, ← c.number32_at-in-20.ensures) c.end_line.ensures
 
-pub returns : goal.returns
+pub returns-in_default : goal.returns-in_default
 unfolding up_line ◌⇒◌∣◌
-returns c =
-    simp (
-      ← c.number32_at-code.ensures,
-      ne_eqb _ _ c.if-code-eq4.false,
-      ne_eqb _ _ c.if-code-eq14.false,
-      ne_eqb _ _ c.if-code-eq20.false,
-    )
+returns-in_default c =
+    let code = c.number32_at.result in
+    simp (← c.number32_at.ensures, ne_eqb code 0x04 (omega arith), ne_eqb code 0x0e (omega arith), ne_eqb code 0x14 (omega arith))

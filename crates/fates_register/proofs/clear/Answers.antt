@@ -1,24 +1,18 @@
--- A cell that is done is done as in the whole run, so the cells left lead to the same register.
+-- To fill the cells with zeros is to clear them one by one.
 use native.Mathlib.Omega.{arith}
-use mathlib.Core.Path.{◌≡◌, sym, ap, ◌∙◌}
-use Prim.Native.Nat.{ℕ}
-use lib.ListN.{length-set}
-use Rattle.fates_register.specs.Register.{cleared}
-use Rattle.fates_register.proofs.Laws.{clear_on}
+use Prim.Native.Nat.{◌+◌, ◌-◌}
+use mathlib.Core.Path.{◌≡◌}
+use lib.ListN.{length, take, drop, length-take, length-drop}
+use lib.Seq.{drop-drop}
+use Rattle.fates_register.specs.Register.{newest_size}
+use Rattle.fates_register.proofs.Laws.{clear_all}
 use Rattle.fates_register.proofs.clear.Goals as goal
 
-pub loop-left-preserved : goal.loop-left-preserved
-loop-left-preserved c =
-    let l = c.loop-left in
-    record {
-      same = l.invariant.same ∙ clear_on l.left l.c l.register (omega arith);
-      stands = omega arith;
-      long = simp length-set l.invariant.long;
-    }
-
 pub returns : goal.returns
-unfolding cleared
 returns c =
-    let l = c.loop-left in
-    let none : l.left ≡ 0 = omega arith in
-    sym (l.invariant.same ∙ ap (λ (j : ℕ). cleared j l.c l.register) none)
+    let l = c.args.register.now in
+    let at = c.args.at in
+    let size : at + newest_size - at ≡ newest_size = omega arith in
+    let long : length (take newest_size (drop at l)) ≡ newest_size = omega (arith, length-take newest_size (drop at l), length-drop at l) in
+    let zeros = c.fill.ensures.after (λ y e. e) in
+    rw (zeros, size, long, drop-drop newest_size at l, ← clear_all newest_size at l (omega arith))

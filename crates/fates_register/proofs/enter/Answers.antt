@@ -1,40 +1,33 @@
 -- Each kind of line has its own change in the definition too, and both leave a register as it is for a stream without a page.
-use borrow.Author.Tests.{lt-ltb, le-ltb}
+use borrow.Author.Rules.{rules}
 use Rattle.ledger.specs.Choice.{◌⇒◌∣◌}
 use Rattle.fates_register.specs.Register.{entered}
 use Rattle.fates_register.proofs.enter.Goals as goal
 
-pub returns-then-stream-ge-STREAM_TOTAL : goal.returns-then-stream-ge-STREAM_TOTAL
+pub returns-in-Began : goal.returns-in-Began
 unfolding entered ◌⇒◌∣◌
-returns-then-stream-ge-STREAM_TOTAL c = simp (c.in-Began.is, le-ltb _ _ c.if-stream-ge-STREAM_TOTAL.true)
+returns-in-Began c = simp (c.in-Began.is, ← c.if-has_page.ensures) c.begin.ensures
 
-pub returns-then-stream-ge-STREAM_TOTAL-2 : goal.returns-then-stream-ge-STREAM_TOTAL-2
+pub returns-else-has_page : goal.returns-else-has_page
 unfolding entered ◌⇒◌∣◌
-returns-then-stream-ge-STREAM_TOTAL-2 c = simp (c.in-Came.is, le-ltb _ _ c.if-stream-ge-STREAM_TOTAL-2.true)
+returns-else-has_page c = simp (c.in-Began.is, ← c.if-has_page.ensures)
 
-pub returns-then-stream-ge-STREAM_TOTAL-3 : goal.returns-then-stream-ge-STREAM_TOTAL-3
+pub returns-in-Came : goal.returns-in-Came
 unfolding entered ◌⇒◌∣◌
-returns-then-stream-ge-STREAM_TOTAL-3 c = simp (c.in-Went.is, le-ltb _ _ c.if-stream-ge-STREAM_TOTAL-3.true)
+returns-in-Came c = simp (c.in-Came.is, ← c.if-has_page-2.ensures) c.ring.ensures
 
-pub returns-else-stream-ge-STREAM_TOTAL : goal.returns-else-stream-ge-STREAM_TOTAL
+pub returns-else-has_page-2 : goal.returns-else-has_page-2
 unfolding entered ◌⇒◌∣◌
-returns-else-stream-ge-STREAM_TOTAL c =
-    simp (c.in-Began.is, lt-ltb _ _ c.if-stream-ge-STREAM_TOTAL.false) c.begin.ensures
+returns-else-has_page-2 c = simp (c.in-Came.is, ← c.if-has_page-2.ensures)
 
-pub returns-else-stream-ge-STREAM_TOTAL-2 : goal.returns-else-stream-ge-STREAM_TOTAL-2
+pub returns-in-Went : goal.returns-in-Went
 unfolding entered ◌⇒◌∣◌
-returns-else-stream-ge-STREAM_TOTAL-2 c =
-    simp (c.in-Came.is, lt-ltb _ _ c.if-stream-ge-STREAM_TOTAL-2.false) c.ring.ensures
+returns-in-Went c = simp (c.in-Went.is, ← c.if-has_page-3.ensures) c.leave.ensures
 
-pub returns-else-stream-ge-STREAM_TOTAL-3 : goal.returns-else-stream-ge-STREAM_TOTAL-3
+pub returns-else-has_page-3 : goal.returns-else-has_page-3
 unfolding entered ◌⇒◌∣◌
-returns-else-stream-ge-STREAM_TOTAL-3 c =
-    simp (c.in-Went.is, lt-ltb _ _ c.if-stream-ge-STREAM_TOTAL-3.false) c.leave.ensures
+returns-else-has_page-3 c = simp (c.in-Went.is, ← c.if-has_page-3.ensures)
 
-pub returns-in-Given : goal.returns-in-Given
+pub returns : goal.returns
 unfolding entered ◌⇒◌∣◌
-returns-in-Given c = rw c.in-Given.is
-
-pub returns-in-Nothing : goal.returns-in-Nothing
-unfolding entered ◌⇒◌∣◌
-returns-in-Nothing c = rw c.in-Nothing.is
+returns c = search rules

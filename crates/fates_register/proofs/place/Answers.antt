@@ -1,6 +1,4 @@
 -- The test whether a place is free is that of the definition, and the two cells written are those of that place.
-use native.Mathlib.Omega.{arith}
-use lib.ListN.{length-set}
 use borrow.Author.Tests.{lt-ltb, le-ltb}
 use Rattle.ledger.specs.Choice.{◌⇒◌∣◌}
 use Rattle.fates_register.specs.Register.{placed}
@@ -9,9 +7,6 @@ use Rattle.fates_register.proofs.place.Goals as goal
 pub returns-then-i-c : goal.returns-then-i-c
 unfolding placed ◌⇒◌∣◌
 returns-then-i-c c = simp (← c.first_free-c.ensures.is, le-ltb _ _ c.if-i-c.true)
-
-pub bounds-register-c-2 : goal.bounds-register-c-2
-bounds-register-c-2 c = simp length-set (omega arith)
 
 pub returns : goal.returns
 unfolding placed ◌⇒◌∣◌

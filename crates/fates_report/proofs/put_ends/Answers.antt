@@ -13,7 +13,6 @@ pub loop-i-init : goal.loop-i-init
 loop-i-init c =
     let a = c.args in
     record {
-      within = omega arith;
       few = omega arith;
       long = refl;
       rest = all_unwritten a.out.now a.at (end_texts stream_total 0 a.register.now);
@@ -25,7 +24,6 @@ loop-i-preserved c =
     let g = c.args.register.now in
     let one = c.put_end-e.ensures in
     record {
-      within = omega arith;
       few = omega (arith, one.few);
       long = search rules;
       rest =

@@ -9,13 +9,9 @@ use Rattle.fates_report.specs.Report.{end_texts, end_size}
 use Rattle.fates_report.proofs.put_ends.Given as goal
 
 pub record ToCome (out₀ : List ℕ) (at : ℕ) (register out : List ℕ) (e i : ℕ) : Type 0 where
-  pub within : i ≤ stream_total
   pub few : e ≤ at + end_size * i
   pub long : length out ≡ length out₀
   pub rest : Unwritten out₀ at (end_texts stream_total 0 register) out e (end_texts (stream_total - i) i register)
 
 abbrev pub invariant-loop-i : goal.invariant-loop-i
 invariant-loop-i l = ToCome l.initial.out l.at l.register l.out l.e l.i
-
-abbrev pub decreases-loop-i : goal.decreases-loop-i
-decreases-loop-i l = stream_total - l.i

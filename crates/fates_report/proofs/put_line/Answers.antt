@@ -1,31 +1,29 @@
--- Each kind of line has its own text in the definition too, and three of them none.
+-- Each kind of line has its own text in the definition too, and three of them none; a stream without a page has none either.
 use native.Mathlib.Omega.{arith}
-use Rattle.octets.proofs.Writing.{wrote_nothing, wrote-most, wrote-more}
+use borrow.Author.Rules.{rules}
+use mathlib.Core.Path.{◌≡◌}
+use mathlib.Core.List.{[]}
+use Rattle.ledger.specs.Choice.{◌⇒◌∣◌}
+use Rattle.octets.proofs.Writing.{wrote_nothing, wrote-most}
 use Rattle.fates_report.specs.Report.{line_text}
 use Rattle.fates_report.proofs.put_line.Goals as goal
 
 pub returns-in-Began : goal.returns-in-Began
-returns-in-Began c =
-    rw c.in-Began.is c.put_began.ensures
+unfolding line_text ◌⇒◌∣◌
+returns-in-Began c = rw (c.in-Began.is, ← c.if-has_page.ensures) c.put_end.ensures
 
-pub returns-in-Came : goal.returns-in-Came
+pub returns-in_default : goal.returns-in_default
+unfolding line_text ◌⇒◌∣◌
+returns-in_default c =
+    rw (c.in-Began.is, ← c.if-has_page.ensures) (wrote-most (omega arith) (wrote_nothing c.args.out.now c.args.at))
+
+pub returns-in_default-2 : goal.returns-in_default-2
+unfolding line_text ◌⇒◌∣◌
+returns-in_default-2 c =
+    rw (c.in-Went.is, ← c.if-has_page-2.ensures) (wrote-most (omega arith) (wrote_nothing c.args.out.now c.args.at))
+
+pub returns-in_default-3 : goal.returns-in_default-3
 unfolding line_text
-returns-in-Came c =
-    let a = c.args in
-    rw c.in-Came.is (wrote-most (omega arith) (wrote_nothing a.out.now a.at))
-
-pub returns-in-Went : goal.returns-in-Went
-returns-in-Went c =
-    rw c.in-Went.is (wrote-more (omega arith) c.put_went.ensures)
-
-pub returns-in-Given : goal.returns-in-Given
-unfolding line_text
-returns-in-Given c =
-    let a = c.args in
-    rw c.in-Given.is (wrote-most (omega arith) (wrote_nothing a.out.now a.at))
-
-pub returns-in-Nothing : goal.returns-in-Nothing
-unfolding line_text
-returns-in-Nothing c =
-    let a = c.args in
-    rw c.in-Nothing.is (wrote-most (omega arith) (wrote_nothing a.out.now a.at))
+returns-in_default-3 c =
+    let none : line_text c.args.y c.args.register.now ≡ [] = search rules in
+    rw none (wrote-most (omega arith) (wrote_nothing c.args.out.now c.args.at))

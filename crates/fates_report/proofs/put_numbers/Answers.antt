@@ -1,40 +1,51 @@
 -- Each turn writes the first of the numbers that are left, so those that are left lead to the same text.
-use Prim.Native.Nat.{◌+◌, ◌-◌}
+use Prim.Native.Nat.{ℕ, ◌+◌, ◌-◌, ◌≤◌, ◌<◌}
+use native.Mathlib.Nat.{sub-zero}
 use native.Mathlib.Omega.{arith}
-use mathlib.Core.Path.{refl}
-use lib.ListN.{get_or}
+use mathlib.Core.Path.{◌≡◌, refl}
+use mathlib.Core.List.{List}
+use lib.ListN.{length, get_or, take, drop, length-take, length-drop}
+use Rattle.std.proofs.lemmas.List.Edits.{get_or-between}
 use borrow.Author.Rules.{rules}
 use Rattle.octets.proofs.Writing.{all_unwritten, less_unwritten, none_unwritten, wrote-most, wrote_of}
 use Rattle.fates_report.specs.Report.{spaced_number, numbers}
-use Rattle.fates_report.proofs.Laws.{numbers-end, numbers-next}
+use Rattle.fates_report.proofs.Laws.{numbers_end, numbers_next}
 use Rattle.fates_report.proofs.put_numbers.Goals as goal
 
-pub loop-left-init : goal.loop-left-init
-loop-left-init c =
+-- as many cells as are asked for, and each where it stands in the register
+cells : (c k : ℕ) (g : List ℕ) → c + k ≤ length g → length (take (c + k - c) (drop c g)) ≡ k
+cells c k g h = omega (arith, length-take (c + k - c) (drop c g), length-drop c g)
+
+pub loop-n-init : goal.loop-n-init
+loop-n-init c =
     let a = c.args in
+    let none : a.c + 0 ≡ a.c = omega arith in
     record {
-      stands = refl;
       few = omega arith;
       long = refl;
-      rest = all_unwritten a.out.now a.at (numbers a.k a.c a.register.now);
+      rest = rw (sub-zero a.k, none) (all_unwritten a.out.now a.at (numbers a.k a.c a.register.now));
     }
 
-pub loop-left-preserved : goal.loop-left-preserved
-loop-left-preserved c =
-    let l = c.loop-left in
-    let g = c.args.register.now in
-    let one = c.put_spaced-e.ensures in
+pub loop-n-preserved : goal.loop-n-preserved
+loop-n-preserved c =
+    let l = c.loop-n in
+    let a = c.args in
+    let g = a.register.now in
+    let j = l.n-index in
+    let inside : j < a.k = omega (arith, cells a.c a.k g (omega arith)) in
+    let one = rw (get_or-between g a.c (a.c + a.k) j 0 (omega arith)) at c.put_spaced-e.ensures in
     record {
-      stands = omega arith;
       few = omega (arith, one.few);
       long = search rules;
       rest =
-          less_unwritten (spaced_number (get_or g l.cell 0)) (numbers (l.left - 1) (l.cell + 1) g) (omega arith) l.invariant.rest
-          (numbers-next l.left l.cell g (search rules)) (wrote_of one);
+          less_unwritten (spaced_number (get_or g (a.c + j) 0)) (numbers (a.k - (j + 1)) (a.c + (j + 1)) g) (omega arith) l.invariant.rest
+          (numbers_next a.k j a.c g inside) (wrote_of one);
     }
 
 pub returns : goal.returns
 returns c =
-    let l = c.loop-left in
-    let g = c.args.register.now in
-    wrote-most (search rules) (none_unwritten l.invariant.rest (numbers-end l.left l.cell g c.loop-left-test.false))
+    let l = c.loop-n in
+    let a = c.args in
+    let g = a.register.now in
+    let all : a.k ≤ l.n-index = omega (arith, cells a.c a.k g (omega arith)) in
+    wrote-most (omega (arith, l.invariant.few, cells a.c a.k g (omega arith))) (none_unwritten l.invariant.rest (numbers_end a.k l.n-index a.c g all))

@@ -1,19 +1,10 @@
 -- The lines of a call are that of the opening and those of the records, and the records are told behind the opening.
-use Prim.Native.Nat.{◌/◌, ◌%◌, ◌≤◌}
+use Prim.Native.Nat.{◌/◌, ◌≤◌}
 use native.Mathlib.Omega.{arith}
-use lib.ListN.{length, length-take}
-use borrow.Author.Rules.{rules}
+use lib.ListN.{length}
 use Rattle.fates_book.specs.Lines.{opening_lines, lines_in}
 use Rattle.fates_report.proofs.Laws.{lines-told}
 use Rattle.fates_report.proofs.tell_call.Goals as goal
-
-pub tell_records-requires : goal.tell_records-requires
-tell_records-requires c =
-    let a = c.args in
-    record {
-      short = rw c.start_of-written.ensures (omega (arith, length-take (a.answer % 65536) a.room.now));
-      lent = search rules;
-    }
 
 pub returns : goal.returns
 returns c =

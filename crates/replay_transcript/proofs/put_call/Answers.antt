@@ -1,9 +1,6 @@
 -- The tests of the answer are those of the text, in their order: a refusal, an opened stream, nothing written, else the records.
-use Prim.Native.Nat.{◌%◌}
 use native.Mathlib.Omega.{arith}
-use lib.ListN.{length-take}
 use borrow.Author.Tests.{lt-ltb, le-ltb, eq-eqb, ne_eqb}
-use borrow.Author.Rules.{rules}
 use Rattle.ledger.specs.Choice.{◌⇒◌∣◌}
 use Rattle.octets.proofs.Writing.{wrote-more}
 use Rattle.replay_transcript.specs.Transcript.{call_text}
@@ -12,26 +9,18 @@ use Rattle.replay_transcript.proofs.put_call.Goals as goal
 pub returns-then-refusal-gt0 : goal.returns-then-refusal-gt0
 unfolding call_text ◌⇒◌∣◌
 returns-then-refusal-gt0 c =
-    rw (lt-ltb _ _ c.if-refusal-gt0.true) (wrote-more (omega arith) c.put_refused.ensures)
+    rw (lt-ltb _ _ c.if-refusal-gt0.true) (wrote-more (omega arith) c.put_pair_line.ensures)
 
 pub returns-then-token-gt0 : goal.returns-then-token-gt0
 unfolding call_text ◌⇒◌∣◌
 returns-then-token-gt0 c =
-    rw (le-ltb _ _ c.if-refusal-gt0.false, lt-ltb _ _ c.if-token-gt0.true) (wrote-more (omega arith) c.put_open.ensures)
+    rw (le-ltb _ _ c.if-refusal-gt0.false, lt-ltb _ _ c.if-token-gt0.true) (wrote-more (omega arith) c.put_pair_line-then-token-gt0.ensures)
 
 pub returns-then-written-eq0 : goal.returns-then-written-eq0
 unfolding call_text ◌⇒◌∣◌
 returns-then-written-eq0 c =
     rw (le-ltb _ _ c.if-refusal-gt0.false, le-ltb _ _ c.if-token-gt0.false, eq-eqb _ _ c.if-written-eq0.true)
     (wrote-more (omega arith) c.put_ok.ensures)
-
-pub put_lines-requires : goal.put_lines-requires
-put_lines-requires c =
-    let a = c.args in
-    rw c.start_of.ensures (record {
-      short = omega (arith, length-take (a.answer % 65536) a.room.now);
-      room = search rules;
-    })
 
 pub returns : goal.returns
 unfolding call_text ◌⇒◌∣◌

@@ -1,8 +1,8 @@
--- The last line is a pair and its end, so it is written once the end stands behind the pair.
+-- The line is a pair and its end, so it is written once the end stands behind the pair.
 use native.Mathlib.Omega.{arith}
 use borrow.Author.Rules.{rules}
 use Rattle.octets.proofs.Writing.{wrote_then, wrote-most, wrote_of}
-use Rattle.replay_transcript.proofs.put_totals.Goals as goal
+use Rattle.replay_transcript.proofs.put_pair_line.Goals as goal
 
 pub returns : goal.returns
 returns c =
