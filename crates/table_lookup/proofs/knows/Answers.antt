@@ -7,7 +7,7 @@ use Rattle.ledger.proofs.Searches.{has_first, first-map}
 use Rattle.paper.specs.Base.{ppa_numbers, knows}
 use Rattle.paper.specs.declared.Ppa.{Ppa}
 use Rattle.table_image.specs.Layout.{table_of}
-use Rattle.table_lookup.proofs.Laws.{is_there}
+use Rattle.ledger.proofs.Places.{is_there}
 use Rattle.table_lookup.proofs.knows.Goals as goal
 
 pub returns : goal.returns

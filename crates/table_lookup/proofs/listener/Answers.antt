@@ -5,7 +5,7 @@ use lib.ListN.{get_or}
 use Rattle.paper.specs.Base.{Slot, closed}
 use Rattle.paper.specs.Saps.{listens, listener}
 use Rattle.table_image.specs.Layout.{table_of}
-use Rattle.table_lookup.proofs.Laws.{found, first-or_length}
+use Rattle.ledger.proofs.Places.{found, first-or_length}
 use Rattle.table_lookup.proofs.listener.Goals as goal
 
 pub returns : goal.returns

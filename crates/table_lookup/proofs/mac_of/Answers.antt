@@ -6,7 +6,7 @@ use Rattle.ledger.specs.Tally.{first_of}
 use Rattle.paper.specs.Base.{no_ppa, mac_of}
 use Rattle.paper.specs.declared.Ppa.{Ppa}
 use Rattle.table_image.specs.Layout.{table_of}
-use Rattle.table_lookup.proofs.Laws.{first-or_length}
+use Rattle.ledger.proofs.Places.{first-or_length}
 use Rattle.table_lookup.proofs.mac_of.Goals as goal
 
 pub returns-in-Some : goal.returns-in-Some

@@ -6,7 +6,7 @@ use lib.ListN.{get_or}
 use Rattle.paper.specs.Base.{no_ppa}
 use Rattle.paper.specs.declared.Ppa.{Ppa}
 use Rattle.table_image.specs.Layout.{table_of}
-use Rattle.table_lookup.proofs.Laws.{found}
+use Rattle.ledger.proofs.Places.{found}
 use Rattle.table_lookup.proofs.ppa_place.Goals as goal
 
 pub returns : goal.returns
