@@ -3,5 +3,6 @@ pub mod Tallies
 pub mod Lists
 pub mod Walks
 pub mod Searches
+pub mod Places
 pub mod Found
 pub mod Sums

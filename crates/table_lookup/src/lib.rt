@@ -1,10 +1,9 @@
 // What is asked of the PPAs and of the other streams.
 #![tactic(auto)]
 
-ghost use Rattle.std.specs.Prelude.{◌≡◌, suc, eqb, get_or};
+ghost use Rattle.std.specs.Prelude.{◌≡◌, suc, eqb, get_or, position};
 ghost use Rattle.ledger.specs.Choice.{either};
 ghost use Rattle.octets.specs.Runs.{same_bytes};
-ghost use Rattle.ledger.specs.Tally.{first_of};
 ghost use Rattle.paper.specs.Base.{stream, no_ppa, knows, mac_of};
 ghost use Rattle.paper.specs.Saps.{listens, listener, is_listened_for};
 ghost use Rattle.paper.specs.Sight.{carrier_of};
@@ -24,27 +23,19 @@ fn is_ppa(img: &[u8], p: PpaNumber, k: usize) -> bool
     octets::number32_inside(&img[at..at + PLACE_SIZE], 0) == p.0
 }
 
-// The place of the PPA with a number; as many as there are PPAs where none has it.
-fn ppa_place(img: &[u8], p: PpaNumber) -> usize
+// The place of the PPA with a number.
+fn ppa_place(img: &[u8], p: PpaNumber) -> Option<usize>
     requires { Lent img.now }
-    ensures { result ≡ first_of (λ (q : Ppa). eqb q.number.0 p.0) (table_of img.now).ppas }
+    ensures { result ≡ position (λ (q : Ppa). eqb q.number.0 p.0) (table_of img.now).ppas }
 {
-    let total = table_image::ppa_total(img) as usize;
-    let mut i: usize = 0;
-    while i < total {
-        if is_ppa(img, p, i) {
-            return i;
-        }
-        i += 1;
-    }
-    total
+    (0..table_image::ppa_total(img) as usize).find(|&k| is_ppa(img, p, k))
 }
 
 pub fn knows(img: &[u8], p: PpaNumber) -> bool
     requires { Lent img.now }
     ensures { result ≡ knows (table_of img.now) p }
 {
-    ppa_place(img, p) < table_image::ppa_total(img) as usize
+    ppa_place(img, p).is_some()
 }
 
 // The MAC of the PPA at a place.
@@ -64,11 +55,10 @@ pub fn mac_of(img: &[u8], p: PpaNumber) -> [u8; MAC_SIZE]
     requires { Lent img.now }
     ensures { result ≡ mac_of (table_of img.now) p }
 {
-    let k = ppa_place(img, p);
-    if k < table_image::ppa_total(img) as usize {
-        return mac_at_place(img, k);
+    match ppa_place(img, p) {
+        Some(k) => mac_at_place(img, k),
+        None => [0; MAC_SIZE],
     }
-    [0; MAC_SIZE]
 }
 
 // The called MAC is that of the PPA.
@@ -76,8 +66,7 @@ pub fn has_mac(img: &[u8], p: PpaNumber, called: &[u8]) -> bool
     requires { Lent img.now }
     ensures { result ≡ same_bytes called.now (mac_of (table_of img.now) p) }
 {
-    let mac = mac_of(img, p);
-    octets::same_bytes(called, &mac)
+    octets::same_bytes(called, &mac_of(img, p))
 }
 
 // A stream that was granted over 0 listens, for its PPA and SAP. The SAP is asked first: it is another for most.
@@ -85,13 +74,9 @@ pub fn listens_at(img: &[u8], p: PpaNumber, sap: u32, i: usize) -> bool
     requires { At i img.now }
     ensures { result ≡ listens p sap (stream (table_of img.now) i) }
 {
-    if table_image::sap_at(img, i) as u32 != sap {
-        return false;
-    }
-    if table_image::granted_at(img, i) == 0 {
-        return false;
-    }
-    table_image::attached_at(img, i).0 == p.0
+    table_image::sap_at(img, i) as u32 == sap
+        && 0 < table_image::granted_at(img, i)
+        && table_image::attached_at(img, i).0 == p.0
 }
 
 // The stream that listens for a PPA and SAP; 16 where nobody does.
@@ -99,14 +84,9 @@ pub fn listener(img: &[u8], p: PpaNumber, sap: u32) -> usize
     requires { Lent img.now }
     ensures { result ≡ listener (table_of img.now) p sap }
 {
-    let mut i: usize = 0;
-    while i < STREAM_TOTAL {
-        if listens_at(img, p, sap, i) {
-            return i;
-        }
-        i += 1;
-    }
-    STREAM_TOTAL
+    (0..STREAM_TOTAL)
+        .find(|&i| listens_at(img, p, sap, i))
+        .unwrap_or(STREAM_TOTAL)
 }
 
 pub fn is_listened_for(img: &[u8], p: PpaNumber, sap: u32) -> bool
@@ -120,10 +100,7 @@ pub fn is_listened_for(img: &[u8], p: PpaNumber, sap: u32) -> bool
 fn means_itself(i: u8, k: Token) -> bool
     ensures { result ≡ either (eqb k.0 0) (eqb k.0 (suc i)) }
 {
-    if k.0 == 0 {
-        return true;
-    }
-    k.0 == octets::wide(i) + 1
+    k.0 == 0 || k.0 == u32::from(i) + 1
 }
 
 // What a token names: this stream, another that is open, or none.

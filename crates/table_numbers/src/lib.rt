@@ -1,8 +1,8 @@
 // The open numbers of the streams: reading, counting, all in a row, the next number, one more, one less.
 #![tactic(auto)]
 
-ghost use Rattle.std.specs.Prelude.{◌≡◌, suc, ◌+◌, [], ◌∷◌, ◌++◌, length, take, drop, nat_eq, slice_index};
-ghost use Rattle.ledger.specs.Tally.{occ, has, without, first_of, free};
+ghost use Rattle.std.specs.Prelude.{◌≡◌, suc, ◌+◌, [], ◌∷◌, ◌++◌, length, take, drop, get_or, eqb, position};
+ghost use Rattle.ledger.specs.Tally.{occ, has, without, free};
 ghost use Rattle.octets.specs.Runs.{paste};
 ghost use Rattle.paper.specs.Base.{waiting, with_numbers};
 ghost use Rattle.paper.specs.Correlations.{occurrences, next_number};
@@ -27,26 +27,17 @@ const FIRST_NUMBER: usize = SLOTS_OFFSET + NUMBERS_OFFSET;
 // The open number at a place, the oldest first.
 pub fn number_at(img: &[u8], i: usize, k: usize) -> Correlation
     requires { LentNumber i k img.now }
-    ensures { result ≡ record { 0 = slice_index (waiting (table_of img.now) i) k } }
+    ensures { result ≡ record { 0 = get_or (waiting (table_of img.now) i) k 0 } }
 {
     Correlation(octets::number32_inside(img, i * SLOT_SIZE + k * 4 + FIRST_NUMBER))
 }
 
-// The first place of a number among a stream's open ones, or their count where it is not open.
-fn number_place(img: &[u8], i: usize, n: Correlation) -> usize
+// The first place of a number among a stream's open ones.
+fn number_place(img: &[u8], i: usize, n: Correlation) -> Option<usize>
     requires { LentAt i img.now }
-    ensures { result ≡ first_of (nat_eq n.0) (waiting (table_of img.now) i) }
+    ensures { result ≡ position (eqb n.0) (waiting (table_of img.now) i) }
 {
-    let count = table_image::count_at(img, i) as usize;
-    let mut k: usize = 0;
-    while k < count {
-        let c = number_at(img, i, k);
-        if n.0 == c.0 {
-            return k;
-        }
-        k += 1;
-    }
-    count
+    (0..table_image::count_at(img, i) as usize).find(|&k| n.0 == number_at(img, i, k).0)
 }
 
 // A number is open on a stream.
@@ -54,8 +45,7 @@ pub fn is_waiting(img: &[u8], i: usize, n: Correlation) -> bool
     requires { LentAt i img.now }
     ensures { result ≡ has n.0 (waiting (table_of img.now) i) }
 {
-    let count = table_image::count_at(img, i) as usize;
-    number_place(img, i, n) < count
+    number_place(img, i, n).is_some()
 }
 
 // How many numbers stay open on a stream without one of them.
@@ -65,9 +55,10 @@ pub fn remaining(img: &[u8], i: usize, n: Correlation) -> u8
 {
     let count = table_image::count_at(img, i);
     if is_waiting(img, i, n) {
-        return count - 1;
+        count - 1
+    } else {
+        count
     }
-    count
 }
 
 // How often a number is open on a stream.
@@ -75,17 +66,9 @@ fn occurs_on(img: &[u8], i: usize, n: u32) -> u32
     requires { LentAt i img.now }
     ensures { result ≡ occ n (waiting (table_of img.now) i) }
 {
-    let count = table_image::count_at(img, i) as usize;
-    let mut total: u32 = 0;
-    let mut k: usize = 0;
-    while k < count {
-        let c = number_at(img, i, k);
-        if n == c.0 {
-            total += 1;
-        }
-        k += 1;
-    }
-    total
+    (0..table_image::count_at(img, i) as usize)
+        .filter(|&k| n == number_at(img, i, k).0)
+        .count() as u32
 }
 
 // How often a number is open in the table.
@@ -93,13 +76,7 @@ fn occurrences(img: &[u8], n: u32) -> u32
     requires { Lent img.now }
     ensures { result ≡ occurrences (table_of img.now) n }
 {
-    let mut total: u32 = 0;
-    let mut i: usize = 0;
-    while i < STREAM_TOTAL {
-        total += occurs_on(img, i, n);
-        i += 1;
-    }
-    total
+    (0..STREAM_TOTAL).map(|i| occurs_on(img, i, n)).sum()
 }
 
 // A stream's open numbers over others, from a place on.
@@ -107,12 +84,8 @@ fn copy_numbers(img: &[u8], i: usize, dst: &mut [u32], at: usize)
     requires { CopyRoom i img.now at dst.old }
     ensures { dst.new ≡ paste dst.old at (waiting (table_of img.now) i) }
 {
-    let count = table_image::count_at(img, i) as usize;
-    let mut k: usize = 0;
-    while k < count {
-        let c = number_at(img, i, k);
-        dst[at + k] = c.0;
-        k += 1;
+    for k in 0..table_image::count_at(img, i) as usize {
+        dst[at + k] = number_at(img, i, k).0;
     }
 }
 
@@ -122,12 +95,10 @@ pub fn open_numbers(img: &[u8], dst: &mut [u32]) -> usize
     requires { RowRoom img.now dst.old }
     ensures { InRow (table_of img.now) result dst.new }
 {
-    let mut total: usize = 0;
-    let mut i: usize = 0;
-    while i < STREAM_TOTAL {
+    let mut total = 0;
+    for i in 0..STREAM_TOTAL {
         copy_numbers(img, i, dst, total);
         total += table_image::count_at(img, i) as usize;
-        i += 1;
     }
     total
 }
@@ -137,10 +108,7 @@ fn is_free(img: &[u8], n: u32) -> bool
     requires { Lent img.now }
     ensures { result ≡ free (occurrences (table_of img.now)) n }
 {
-    if 0 < n {
-        return occurrences(img, n) == 0;
-    }
-    false
+    0 < n && occurrences(img, n) == 0
 }
 
 // The counter's number, passing over 0 and numbers still open: at most one more than can be open.
@@ -149,13 +117,11 @@ pub fn next_number(img: &[u8]) -> u32
     ensures { result ≡ next_number (table_of img.now) }
 {
     let mut n = table_image::counter(img);
-    let mut left: usize = MOST_PASSED;
-    while 0 < left {
+    for _ in 0..MOST_PASSED {
         if is_free(img, n) {
             return n;
         }
-        n = std::num::wrapping_add_u32(n, 1);
-        left -= 1;
+        n = n.wrapping_add(1);
     }
     n
 }
@@ -223,12 +189,10 @@ pub fn remove_number(img: &mut [u8], i: usize, s: Stream, n: Correlation)
     requires { LentAt i img.old }
     ensures { img.new ≡ image_of (with_numbers (table_of img.old) i s (without n.0 (waiting (table_of img.old) i))) }
 {
-    let count = table_image::count_at(img, i) as usize;
-    let k = number_place(img, i, n);
-    if k < count {
+    if let Some(k) = number_place(img, i, n) {
         let bytes = one_number_less(img, i, k);
         put_slot(img, i, s, bytes);
-        return;
+    } else {
+        table_image::store_stream(img, i, s);
     }
-    table_image::store_stream(img, i, s);
 }

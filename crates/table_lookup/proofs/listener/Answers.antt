@@ -1,27 +1,18 @@
--- No stream before i listens.
-use native.Mathlib.Omega.{arith}
-use mathlib.Core.Path.{sym, ◌∙◌}
-use Rattle.ledger.proofs.Searches.{first_hit, first-miss, first-end}
+-- The first stream that listens.
+use Rattle.std.proofs.Common.{◌≡◌, Bool, true, false, sym, rules}
+use Rattle.std.proofs.lemmas.Iterator.{first_from_Range}
+use lib.ListN.{get_or}
 use Rattle.paper.specs.Base.{Slot, closed}
 use Rattle.paper.specs.Saps.{listens, listener}
 use Rattle.table_image.specs.Layout.{table_of}
+use Rattle.ledger.proofs.Places.{found, first-or_length}
 use Rattle.table_lookup.proofs.listener.Goals as goal
-
-pub returns-then-listens_at : goal.returns-then-listens_at
-unfolding listener
-returns-then-listens_at c =
-    first_hit (λ (x : Slot). listens c.args.p c.args.sap x.stream) closed (table_of c.args.img.now).slots c.loop-i.i
-    (omega (arith, c.requires.shaped.sixteen)) c.loop-i.invariant.1 (sym c.listens_at.ensures ∙ c.if-listens_at.true)
-
-pub loop-i-preserved : goal.loop-i-preserved
-unfolding listener
-loop-i-preserved c =
-    let m = first-miss (λ (x : Slot). listens c.args.p c.args.sap x.stream) closed (table_of c.args.img.now).slots c.loop-i.i
-    (omega (arith, c.requires.shaped.sixteen)) c.loop-i.invariant.1 (sym c.listens_at.ensures ∙ c.if-listens_at.false) in
-    (omega arith, omega (arith, m))
 
 pub returns : goal.returns
 unfolding listener
 returns c =
-    let s = (table_of c.args.img.now).slots in
-    omega (arith, c.loop-i.invariant.1, c.loop-i-test.false, c.requires.shaped.sixteen, first-end (λ (x : Slot). listens c.args.p c.args.sap x.stream) s)
+    let l = (table_of c.args.img.now).slots in
+    let f : Slot → Bool = λ x. listens c.args.p c.args.sap x.stream in
+    let h = found f closed l _ _ (sym c.requires.shaped.sixteen)
+    (first_from_Range _ _ _ _ (λ k. f (get_or l k closed) ≡ true) (λ k. f (get_or l k closed) ≡ false) c.find.ensures.ran (λ x q k. search rules) (λ x q k. search rules)) in
+    rw (c.unwrap_or.ensures, h, ← c.requires.shaped.sixteen) (first-or_length f l)

@@ -1,36 +1,29 @@
--- After i turns the first i streams are counted.
-use Rattle.std.proofs.Common.{◌≡◌, ℕ, ◌+◌, get_or, drop, ap, add-one, arith, drop_of_length-le, drop-cons, rules}
-use Rattle.ledger.specs.Tally.{occ, sum_of}
+-- The streams' counts are summed, each at most 8.
+use Rattle.std.proofs.Common.{◌∙◌, sym, length, ℕ, ◌≡◌, refl, arith, rules}
+use Rattle.std.specs.List.{range_with_len}
+use Rattle.std.proofs.lemmas.Iterator.{YieldsList-from_range, YieldsList-from_map}
+use Rattle.std.proofs.lemmas.Iterator.Consumers.{sum_by_from_yields_List}
+use Rattle.std.proofs.lemmas.Iterator.Adapters.{fits_from_length, at_most_from_yields_List}
+use Rattle.ledger.specs.Tally.{occ}
+use Rattle.ledger.proofs.Places.{summed}
 use Rattle.ledger.proofs.Tallies.{occ-length}
 use Rattle.paper.specs.Base.{Slot, waiting, closed}
 use Rattle.paper.specs.Correlations.{occurrences}
 use Rattle.table_image.specs.Layout.{table_of}
 use Rattle.table_numbers.proofs.occurrences.Goals as goal
 
-pub loop-i-init : goal.loop-i-init
-unfolding occurrences
-loop-i-init c = (search rules, search rules, omega arith)
-
-pub overflow_add-total : goal.overflow_add-total
-overflow_add-total c =
-    let i = c.loop-i.i in
-    omega (arith, c.occurs_on-total.ensures, occ-length c.args.n (waiting (table_of c.args.img.now) i), c.requires.shaped.eight i)
-
-pub loop-i-preserved : goal.loop-i-preserved
-loop-i-preserved c =
-    let l = c.loop-i in
+pub sum-requires-clause-fits : goal.sum-requires-clause-fits
+sum-requires-clause-fits c =
     let t = table_of c.args.img.now in
-    let f : Slot → ℕ = λ x. occ c.args.n x.waiting in
-    let d : sum_of f (drop l.i t.slots) ≡ f (get_or t.slots l.i closed) + sum_of f (drop (l.i + 1) t.slots) =
-    rw add-one (ap (sum_of f) (drop-cons t.slots l.i closed (omega (arith, c.requires.shaped.sixteen)))) in (
-      omega arith,
-      omega (arith, c.occurs_on-total.ensures, occ-length c.args.n (waiting t l.i), c.requires.shaped.eight l.i),
-      omega (arith, l.invariant.2, c.occurs_on-total.ensures),
-    )
+    fits_from_length _ _ 16 _ (at_most_from_yields_List (YieldsList-from_range 0 16 16 c.map.ensures.source refl) (omega arith)) c.map.ensures.closure (omega arith)
+    (λ x r q k. let e : r ≡ occ c.args.n (waiting t x) = search rules in (search rules, omega (arith, occ-length c.args.n (waiting t x), c.requires.shaped.eight x)))
 
 pub returns : goal.returns
+unfolding occurrences
 returns c =
-    let l = c.loop-i in
     let t = table_of c.args.img.now in
-    let f : Slot → ℕ = λ x. occ c.args.n x.waiting in
-    omega (arith, l.invariant.2, ap (sum_of f) (drop_of_length-le t.slots {i = l.i} (omega (arith, c.requires.shaped.sixteen))))
+    let n = c.args.n in
+    let h = λ (k : ℕ). occ n (waiting t k) in
+    sum_by_from_yields_List h (range_with_len 0 (length t.slots)) _ _ c.sum.ensures.ran
+    (YieldsList-from_map _ h (YieldsList-from_range 0 16 (length t.slots) c.map.ensures.source (sym c.requires.shaped.sixteen)) c.map.ensures.closure (λ x r q k. search rules))
+    ∙ summed (λ (x : Slot). occ n x.waiting) closed t.slots

@@ -13,18 +13,13 @@ use Rattle.table_numbers.proofs.remaining.Goals as goal
 one_fewer : (t : Table) (i : ℕ) (n : Correlation) → has n.0 (waiting t i) ≡ true → suc (length (without n.0 (waiting t i))) ≡ length (waiting t i)
 one_fewer t i n h = length_without n.0 (waiting t i) (ltb-true 0 (occ n.0 (waiting t i)) h)
 
-pub overflow_sub-result : goal.overflow_sub-result
-overflow_sub-result c =
-    let a = c.args in
-    omega (arith, c.count_at-count.ensures, one_fewer (table_of a.img.now) a.i a.n (sym c.is_waiting.ensures ∙ c.if-is_waiting.true))
-
 pub returns-then-is_waiting : goal.returns-then-is_waiting
 returns-then-is_waiting c =
     let a = c.args in
     omega (arith, c.count_at-count.ensures, one_fewer (table_of a.img.now) a.i a.n (sym c.is_waiting.ensures ∙ c.if-is_waiting.true))
 
-pub returns : goal.returns
-returns c =
+pub returns-else-is_waiting : goal.returns-else-is_waiting
+returns-else-is_waiting c =
     let a = c.args in
     c.count_at-count.ensures
     ∙ ap length (sym (without_none a.n.0 (waiting (table_of a.img.now) a.i) (sym c.is_waiting.ensures ∙ c.if-is_waiting.false)))
