@@ -11,10 +11,7 @@ ghost use Rattle.ledger.specs.Few.{Few};
 pub fn byte_at(s: &[u8], i: usize) -> u8
     ensures { result ≡ get_or s.now i 0 }
 {
-    if i < s.len() {
-        return s[i];
-    }
-    0
+    s.get(i).copied().unwrap_or(0)
 }
 
 // A byte as a number of four bytes.
@@ -67,11 +64,7 @@ pub fn put_bytes(dst: &mut [u8], at: usize, src: &[u8])
     requires { at + length src.now ≤ length dst.old }
     ensures { dst.new ≡ paste dst.old at src.now }
 {
-    let mut i = 0;
-    while i < src.len() {
-        dst[at + i] = src[i];
-        i += 1;
-    }
+    dst[at..at + src.len()].copy_from_slice(src);
 }
 
 // A number's two bytes over others from a place on.
@@ -108,10 +101,8 @@ fn block_of(fields: &[u32]) -> [u8; BLOCK_SIZE]
     ensures { result ≡ pad (flat fields.now) }
 {
     let mut block = [0u8; BLOCK_SIZE];
-    let mut i = 0;
-    while i < fields.len() {
-        put_number32(&mut block, i * 4, fields[i]);
-        i += 1;
+    for (i, w) in fields.iter().enumerate() {
+        put_number32(&mut block, i * 4, *w);
     }
     block
 }
@@ -130,30 +121,14 @@ pub fn block_with(fields: &[u32], tail: &[u8]) -> [u8; BLOCK_SIZE]
 pub fn is_zero(s: &[u8]) -> bool
     ensures { result ≡ all_zero s.now }
 {
-    let mut any: u8 = 0;
-    let mut i = 0;
-    while i < s.len() {
-        any |= s[i];
-        i += 1;
-    }
-    any == 0
+    s.iter().fold(0, |any, b| any | b) == 0
 }
 
 // Two runs have the same length and the same bytes.
 pub fn same_bytes(a: &[u8], b: &[u8]) -> bool
     ensures { result ≡ same_bytes a.now b.now }
 {
-    if a.len() != b.len() {
-        return false;
-    }
-    let mut i = 0;
-    while i < a.len() {
-        if a[i] != b[i] {
-            return false;
-        }
-        i += 1;
-    }
-    true
+    a == b
 }
 
 // Of n bytes from a place on, those that are there.
@@ -161,12 +136,6 @@ pub fn part_at<'a>(s: &'a [u8], at: usize, n: usize) -> &'a [u8]
     requires { at + n ≤ farthest }
     ensures { result.now ≡ part s.now at n }
 {
-    let len = s.len();
-    if len < at {
-        return &s[len..len];
-    }
-    if len - at < n {
-        return &s[at..len];
-    }
-    &s[at..at + n]
+    let from = at.min(s.len());
+    &s[from..(at + n).min(s.len())]
 }
