@@ -13,16 +13,16 @@ fn put_digits(digits: &mut [u8], n: u64) -> usize
     requires { length digits.old ≡ most_digits }
     ensures { DigitsFrom n result digits.new }
 {
-    let mut from = MOST_DIGITS;
     let mut rest = n;
-    while 10 <= rest {
-        from -= 1;
+    for from in (0..MOST_DIGITS).rev() {
+        if rest < 10 {
+            digits[from] = 48 + rest as u8;
+            return from;
+        }
         digits[from] = 48 + (rest % 10) as u8;
         rest /= 10;
     }
-    from -= 1;
-    digits[from] = 48 + rest as u8;
-    from
+    0
 }
 
 // A number in decimal.
@@ -52,13 +52,10 @@ pub fn put_hex(out: &mut [u8], at: usize, bytes: &[u8]) -> usize
     requires { at + 2 * length bytes.now ≤ length out.old }
     ensures { WroteMost (2 * length bytes.now) (hex bytes.now) at result out.old out.new }
 {
-    let mut i = 0;
-    while i < bytes.len() {
-        let b = bytes[i];
+    for (i, b) in bytes.iter().enumerate() {
         octets::put_bytes(out, at + 2 * i, &[digit(b / 16), digit(b % 16)]);
-        i += 1;
     }
-    at + 2 * i
+    at + 2 * bytes.len()
 }
 
 // Bytes as they are.
