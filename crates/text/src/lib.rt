@@ -9,8 +9,7 @@ ghost use Rattle.text.specs.Digits.{most_digits, digit, decimal, DigitsFrom, hex
 const MOST_DIGITS: usize = 20;
 
 // The digits of a number at the end of the bytes lent; where they begin.
-fn put_digits(digits: &mut [u8], n: u64) -> usize
-    requires { length digits.old ≡ most_digits }
+fn put_digits(digits: &mut [u8; MOST_DIGITS], n: u64) -> usize
     ensures { DigitsFrom n result digits.new }
 {
     let mut rest = n;
@@ -32,8 +31,7 @@ pub fn put_decimal(out: &mut [u8], at: usize, n: u64) -> usize
 {
     let mut digits = [0u8; MOST_DIGITS];
     let from = put_digits(&mut digits, n);
-    octets::put_bytes(out, at, &digits[from..]);
-    at + (MOST_DIGITS - from)
+    put_word(out, at, &digits[from..])
 }
 
 // A digit below 16, in small letters.

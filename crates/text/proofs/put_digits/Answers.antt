@@ -6,13 +6,14 @@ use Rattle.text.proofs.Laws.{tenth, digits_none, digit-before, digit-first}
 use Rattle.text.proofs.put_digits.Goals as goal
 
 pub loop-from-init : goal.loop-from-init
-loop-from-init c = record { small = omega arith; stand = digits_none c.args.n c.args.digits.now (search rules) }
+loop-from-init c = record { small = omega arith; long = search rules; stand = digits_none c.args.n c.args.digits.now (search rules) }
 
 pub loop-from-preserved : goal.loop-from-preserved
 loop-from-preserved c =
     let l = c.loop-from in
     record {
       small = tenth l.from l.rest (search rules) l.invariant.small;
+      long = search rules;
       stand = digit-before l.from l.rest l.digits c.if-rest-lt10.false (search rules) (search rules) ∙ l.invariant.stand;
     }
 
@@ -29,4 +30,4 @@ pub returns : goal.returns
 unfolding digits
 returns c =
     let none : c.loop-from.from ≡ 0 = omega arith in
-    record { some = omega arith; long = search rules; stand = rw none at c.loop-from.invariant.stand }
+    record { some = omega arith; long = c.loop-from.invariant.long; stand = rw none at c.loop-from.invariant.stand }
