@@ -1,5 +1,5 @@
 -- The digits stand at the end of their buffer, so all that is written from there on are the number's digits.
-use Rattle.std.proofs.Common.{arith, ◌≡◌, ◌∙◌, ◌-◌, length, take, drop}
+use Rattle.std.proofs.Common.{arith, ◌≡◌, ◌∙◌, ◌-◌, take, drop}
 use lib.ListN.{length-drop}
 use lib.Seq.{take_all}
 use Rattle.octets.proofs.Writing.{wrote-most, wrote_as}

@@ -21,7 +21,7 @@ loop-i-preserved c =
     ∙ ap (paste a.out.now a.at) (sym (hex-next a.bytes.now l.i (search rules)))
 
 pub returns : goal.returns
-returns c = 
+returns c =
     let l = c.loop-i in
     let a = c.args in
     record {
