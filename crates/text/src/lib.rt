@@ -40,9 +40,10 @@ fn digit(d: u8) -> u8
     ensures { result ≡ digit d }
 {
     if d < 10 {
-        return 48 + d;
+        48 + d
+    } else {
+        87 + d
     }
-    87 + d
 }
 
 // Bytes in hex.
