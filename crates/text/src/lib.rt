@@ -39,11 +39,7 @@ fn digit(d: u8) -> u8
     requires { d < 16 }
     ensures { result ≡ digit d }
 {
-    if d < 10 {
-        48 + d
-    } else {
-        87 + d
-    }
+    if d < 10 { 48 + d } else { 87 + d }
 }
 
 // Bytes in hex.
