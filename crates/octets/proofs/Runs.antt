@@ -2,67 +2,40 @@
 -- a room.
 use Prim.Native.Nat.{ℕ, zero, suc, ◌+◌, ◌<◌, ◌≤◌, ◌-◌}
 use mathlib.Core.Path.{◌≡◌, refl, ap₂, sym, ap, ◌∙◌}
-use mathlib.Core.Bool.{Bool, true, false, ◌&&◌, false≢true, and_assoc}
+use mathlib.Core.Bool.{true, ◌&&◌, and_assoc, and-true}
 use mathlib.Core.List.{List, [], ◌∷◌, ◌++◌, append_assoc, append-nil}
 use lib.Dec.{eqb, eqb-suc-zero, ltb}
-use borrow.Author.Tests.{eqb-true, eq-eqb, ne_eqb, ltb-true, lt-ltb}
+use borrow.Author.Tests.{eqb-true, ne_eqb, ltb-true, lt-ltb}
 use lib.ListN.{length, replicate, get_or, drop, take, drop_of_length-le, length-drop, length-take, length-append, take-append-drop}
 use native.Mathlib.Omega.{arith}
 use lib.Bits.{bit_or, or_add_and, and_le_r}
-use native.Mathlib.Numerals.{add-one}
-use lib.Seq.{drop-cons, take-nil, take_all, length-take-le, get_or-drop, take-add, drop-drop, get_or-take, drop_at, take_at, take-take}
+use lib.Seq.{take_all, length-take-le, get_or-drop, take-add, drop-drop, get_or-take, drop_at, take_at, take-take}
 use borrow.Rule.Slice.PartMut.{put_mid, post_of, mid_of}
 use native.Mathlib.Nat.{zero-add}
-use Rattle.octets.specs.Runs.{same_bytes, all_zero, part, Bytes, paste, over, are_bytes}
+use Rattle.std.specs.List.{fold}
+use Rattle.std.proofs.lemmas.Bool.{and_parts}
+use Rattle.octets.specs.Runs.{all_zero, part, Bytes, paste, over, are_bytes}
 use Rattle.ledger.proofs.Lists.{each_take}
 use Rattle.ledger.proofs.Tallies.{all_at, at_all}
 
 -- ---- tests of runs
 
--- runs that pass the test are equal
-same_equal : (a b : List ℕ) → same_bytes a b ≡ true → a ≡ b
-same_equal [] [] h = refl
-same_equal [] (y ∷ b) h = absurd (false≢true h)
-same_equal (x ∷ a) [] h = absurd (false≢true h)
-same_equal (x ∷ a) (y ∷ b) h =
-    let t = both (eqb x y) (same_bytes a b) h in
-    ap₂ (λ (z : ℕ) (l : List ℕ). z ∷ l) (eqb-true x y t.0) (same_equal a b t.1)
-  where
-    both : (p q : Bool) → p && q ≡ true → (p ≡ true) × (q ≡ true)
-    both true q h = (refl, h)
-    both false q h = absurd (false≢true h)
-
--- a run passes the test against itself
-pub same_self : (a : List ℕ) → same_bytes a a ≡ true
-same_self [] = refl
-same_self (x ∷ a) = rw (eq-eqb x x refl) (same_self a)
-
--- runs that differ fail the test
-pub same_not : (a b : List ℕ) → (a ≡ b → ⊥) → same_bytes a b ≡ false
-same_not a b n = go (same_bytes a b) refl
-  where
-    go : (t : Bool) → same_bytes a b ≡ t → same_bytes a b ≡ false
-    go true e = absurd (n (same_equal a b e))
-    go false e = e
-
 -- a run that passes the test for zeros is one of zeros
 pub zero-replicate : (l : List ℕ) → all_zero l ≡ true → l ≡ replicate (length l) 0
-zero-replicate l h = same_equal l (replicate (length l) 0) (sym (zero_same l) ∙ h)
-  where
-    zero_same : (l : List ℕ) → all_zero l ≡ same_bytes l (replicate (length l) 0)
-    zero_same [] = refl
-    zero_same (x ∷ l) = ap (λ (t : Bool). eqb x 0 && t) (zero_same l)
+zero-replicate [] h = refl
+zero-replicate (x ∷ l) h =
+    let t = and_parts (eqb x 0) (all_zero l) h in
+    ap₂ (λ (z : ℕ) (r : List ℕ). z ∷ r) (eqb-true x 0 t.0) (zero-replicate l t.1)
 
 -- two numbers joined by `|` are 0 exactly if both are
 or_zero : (x y : ℕ) → eqb (bit_or x y) 0 ≡ eqb x 0 && eqb y 0
 or_zero zero y = refl
 or_zero (suc x) y = rw (eqb-suc-zero x) (ne_eqb (bit_or (suc x) y) 0 (λ e. omega (arith, or_add_and (suc x) y, and_le_r (suc x) y)))
 
--- one byte more is looked at
-pub zero_more : (s : List ℕ) (i any : ℕ) → i < length s
-    → eqb (bit_or any (get_or s i 0)) 0 && all_zero (drop (i + 1) s) ≡ eqb any 0 && all_zero (drop i s)
-zero_more s i any h =
-    rw (or_zero, add-one, drop-cons s i 0) (and_assoc (eqb any 0) (eqb (get_or s i 0) 0) (all_zero (drop (suc i) s)))
+-- so are any number of them
+pub zero_fold : (any : ℕ) (s : List ℕ) → eqb (fold bit_or any s) 0 ≡ eqb any 0 && all_zero s
+zero_fold any [] = sym (and-true (eqb any 0))
+zero_fold any (x ∷ s) = zero_fold (bit_or any x) s ∙ rw (or_zero any x) (and_assoc (eqb any 0) (eqb x 0) (all_zero s))
 
 -- bytes, by the test and place by place
 pub of_are_bytes : (l : List ℕ) → are_bytes l ≡ true → Bytes l
@@ -84,15 +57,6 @@ zeros_pass (suc k) zero r h = absurd (omega arith)
 zeros_pass (suc k) (suc n) r h = zeros_pass k n r (omega arith)
 
 -- ---- a part of a list
-
--- past the end there is none
-pub part_past : (s : List ℕ) (at n : ℕ) → length s ≤ at → part s at n ≡ []
-part_past s at n h = ap (take n) (drop_of_length-le s h) ∙ take-nil n
-
--- a part that would go past the end goes up to it
-pub part_rest : (s : List ℕ) (at n : ℕ) → length s - at ≤ n → part s at n ≡ part s at (length s - at)
-part_rest s at n h =
-    take_all n (drop at s) (omega (arith, length-drop at s)) ∙ sym (take_all (length s - at) (drop at s) (omega (arith, length-drop at s)))
 
 -- a part is no longer than asked for
 pub part-most : (s : List ℕ) (at n : ℕ) → length (part s at n) ≤ n

@@ -1,65 +1,107 @@
 // Numbers and runs of bytes in slices: reading, writing, blocks of fields, tests of runs.
 #![tactic(auto)]
 
-ghost use Rattle.std.specs.Prelude.{◌≡◌, ◌++◌, ◌+◌, ◌*◌, ◌≤◌, length, get_or};
+ghost use Rattle.std.specs.Prelude.{◌≡◌, ◌++◌, ◌+◌, ◌*◌, ◌≤◌, ℕ, List, refl, take, drop, length, get_or};
 ghost use Rattle.octets.specs.Numbers.{be16_at, be32_at, be16, be32};
+ghost use Rattle.octets.specs.Numbers.{be16-dropped, be16-taken, be32-dropped, be32-taken};
 ghost use Rattle.octets.specs.Runs.{farthest, part, paste, all_zero, same_bytes};
 ghost use Rattle.octets.specs.Blocks.{flat, block_size, pad};
-ghost use Rattle.ledger.specs.Few.{Few};
 
 // A byte, or 0 past the end.
 pub fn byte_at(s: &[u8], i: usize) -> u8
     ensures { result ≡ get_or s.now i 0 }
 {
-    if i < s.len() {
-        return s[i];
+    s.get(i).copied().unwrap_or(0)
+}
+
+// A number of several bytes, the top one first.
+pub trait Number: Copy {
+    const SIZE: usize;
+
+    ghost SIZE: { ℕ };
+
+    ghost at: { List ℕ → ℕ → Self };
+
+    ghost bytes: { Self → List ℕ };
+
+    // The number in the first bytes; a byte past the end is 0.
+    fn first(s: &[u8]) -> Self
+        ensures { result ≡ at s.now 0 };
+
+    // The number's bytes, over as many others.
+    fn over(self, dst: &mut [u8])
+        requires { length dst.old ≡ SIZE }
+        ensures { dst.new ≡ bytes self };
+
+    ghost dropped: { (s : List ℕ) (k : ℕ) → at (drop k s) 0 ≡ at s k };
+
+    ghost taken: { (s : List ℕ) → at (take SIZE s) 0 ≡ at s 0 };
+
+    ghost long: { (v : Self) → length (bytes v) ≡ SIZE };
+}
+
+impl Number for u16 {
+    const SIZE: usize = 2;
+
+    ghost SIZE = { 2 };
+
+    ghost at = { be16_at };
+
+    ghost bytes = { be16 };
+
+    ghost dropped = { be16-dropped };
+
+    ghost taken = { be16-taken };
+
+    ghost long = { λ v. refl };
+
+    fn first(s: &[u8]) -> u16 {
+        u16::from_be_bytes([byte_at(s, 0), byte_at(s, 1)])
     }
-    0
+
+    fn over(self, dst: &mut [u8]) {
+        dst.copy_from_slice(&u16::to_be_bytes(self));
+    }
 }
 
-// A byte as a number of four bytes.
-pub fn wide(x: u8) -> u32
-    ensures { Few 255 x result }
-{
-    x as u32
+impl Number for u32 {
+    const SIZE: usize = 4;
+
+    ghost SIZE = { 4 };
+
+    ghost at = { be32_at };
+
+    ghost bytes = { be32 };
+
+    ghost dropped = { be32-dropped };
+
+    ghost taken = { be32-taken };
+
+    ghost long = { λ v. refl };
+
+    fn first(s: &[u8]) -> u32 {
+        u32::from_be_bytes([byte_at(s, 0), byte_at(s, 1), byte_at(s, 2), byte_at(s, 3)])
+    }
+
+    fn over(self, dst: &mut [u8]) {
+        dst.copy_from_slice(&u32::to_be_bytes(self));
+    }
 }
 
-// The number in the two bytes at a place; a byte past the end is 0.
-pub fn number16_at(s: &[u8], at: usize) -> u16
+// The number in the bytes at a place; a byte past the end is 0.
+pub fn number_at<N: Number>(s: &[u8], at: usize) -> N
     requires { at ≤ farthest }
-    ensures { result ≡ be16_at s.now at }
+    ensures { result ≡ N.at s.now at }
 {
-    let a = wide(byte_at(s, at));
-    let b = wide(byte_at(s, at + 1));
-    (a * 256 + b) as u16
+    N::first(s.get(at..).unwrap_or(&[]))
 }
 
-// The number in the four bytes at a place; a byte past the end is 0.
-pub fn number32_at(s: &[u8], at: usize) -> u32
-    requires { at ≤ farthest }
-    ensures { result ≡ be32_at s.now at }
+// The number in bytes that are known to be there: no end is looked for.
+pub fn number_inside<N: Number>(s: &[u8], at: usize) -> N
+    requires { at + N.SIZE ≤ length s.now }
+    ensures { result ≡ N.at s.now at }
 {
-    let a = wide(byte_at(s, at));
-    let b = wide(byte_at(s, at + 1));
-    let c = wide(byte_at(s, at + 2));
-    let d = wide(byte_at(s, at + 3));
-    a * 16777216 + b * 65536 + c * 256 + d
-}
-
-// The number in two bytes that are known to be there: no end is looked for.
-pub fn number16_inside(s: &[u8], at: usize) -> u16
-    requires { at + 2 ≤ length s.now }
-    ensures { result ≡ be16_at s.now at }
-{
-    (wide(s[at]) * 256 + wide(s[at + 1])) as u16
-}
-
-// The number in four bytes that are known to be there: no end is looked for.
-pub fn number32_inside(s: &[u8], at: usize) -> u32
-    requires { at + 4 ≤ length s.now }
-    ensures { result ≡ be32_at s.now at }
-{
-    wide(s[at]) * 16777216 + wide(s[at + 1]) * 65536 + wide(s[at + 2]) * 256 + wide(s[at + 3])
+    N::first(&s[at..at + N::SIZE])
 }
 
 // Bytes over others from a place on.
@@ -67,36 +109,15 @@ pub fn put_bytes(dst: &mut [u8], at: usize, src: &[u8])
     requires { at + length src.now ≤ length dst.old }
     ensures { dst.new ≡ paste dst.old at src.now }
 {
-    let mut i = 0;
-    while i < src.len() {
-        dst[at + i] = src[i];
-        i += 1;
-    }
+    dst[at..at + src.len()].copy_from_slice(src);
 }
 
-// A number's two bytes over others from a place on.
-pub fn put_number16(dst: &mut [u8], at: usize, v: u16)
-    requires { at + 2 ≤ length dst.old }
-    ensures { dst.new ≡ paste dst.old at (be16 v) }
+// A number's bytes over others from a place on.
+pub fn put_number<N: Number>(dst: &mut [u8], at: usize, v: N)
+    requires { at + N.SIZE ≤ length dst.old }
+    ensures { dst.new ≡ paste dst.old at (N.bytes v) }
 {
-    put_bytes(dst, at, &[(v / 256) as u8, (v % 256) as u8]);
-}
-
-// A number's four bytes over others from a place on.
-pub fn put_number32(dst: &mut [u8], at: usize, v: u32)
-    requires { at + 4 ≤ length dst.old }
-    ensures { dst.new ≡ paste dst.old at (be32 v) }
-{
-    put_bytes(
-        dst,
-        at,
-        &[
-            (v / 16777216) as u8,
-            (v / 65536 % 256) as u8,
-            (v / 256 % 256) as u8,
-            (v % 256) as u8,
-        ],
-    );
+    v.over(&mut dst[at..at + N::SIZE]);
 }
 
 // A block.
@@ -108,10 +129,8 @@ fn block_of(fields: &[u32]) -> [u8; BLOCK_SIZE]
     ensures { result ≡ pad (flat fields.now) }
 {
     let mut block = [0u8; BLOCK_SIZE];
-    let mut i = 0;
-    while i < fields.len() {
-        put_number32(&mut block, i * 4, fields[i]);
-        i += 1;
+    for (i, w) in fields.iter().enumerate() {
+        put_number(&mut block, i * 4, *w);
     }
     block
 }
@@ -130,30 +149,14 @@ pub fn block_with(fields: &[u32], tail: &[u8]) -> [u8; BLOCK_SIZE]
 pub fn is_zero(s: &[u8]) -> bool
     ensures { result ≡ all_zero s.now }
 {
-    let mut any: u8 = 0;
-    let mut i = 0;
-    while i < s.len() {
-        any |= s[i];
-        i += 1;
-    }
-    any == 0
+    s.iter().fold(0, |any, b| any | b) == 0
 }
 
 // Two runs have the same length and the same bytes.
 pub fn same_bytes(a: &[u8], b: &[u8]) -> bool
     ensures { result ≡ same_bytes a.now b.now }
 {
-    if a.len() != b.len() {
-        return false;
-    }
-    let mut i = 0;
-    while i < a.len() {
-        if a[i] != b[i] {
-            return false;
-        }
-        i += 1;
-    }
-    true
+    a == b
 }
 
 // Of n bytes from a place on, those that are there.
@@ -161,12 +164,6 @@ pub fn part_at<'a>(s: &'a [u8], at: usize, n: usize) -> &'a [u8]
     requires { at + n ≤ farthest }
     ensures { result.now ≡ part s.now at n }
 {
-    let len = s.len();
-    if len < at {
-        return &s[len..len];
-    }
-    if len - at < n {
-        return &s[at..len];
-    }
-    &s[at..at + n]
+    let from = at.min(s.len());
+    &s[from..(at + n).min(s.len())]
 }

@@ -14,13 +14,7 @@ use Rattle.text.specs.Digits.{digit, digits, most_digits, decimal, hex}
 
 -- ---- decimal
 
--- a number of two digits or more
-pub two_places : (k n : ℕ) → 10 ≤ n → n < 10 ^ k → 2 ≤ k
-two_places zero n a b = omega arith
-two_places (suc zero) n a b = omega arith
-two_places (suc (suc k)) n a b = omega arith
-
--- has one fewer without its last
+-- a number has one digit fewer without its last
 pub tenth : (k n : ℕ) → 1 ≤ k → n < 10 ^ k → n / 10 < 10 ^ (k - 1)
 tenth zero n a h = omega arith
 tenth (suc k) n a h =

@@ -9,20 +9,19 @@ ghost use Rattle.text.specs.Digits.{most_digits, digit, decimal, DigitsFrom, hex
 const MOST_DIGITS: usize = 20;
 
 // The digits of a number at the end of the bytes lent; where they begin.
-fn put_digits(digits: &mut [u8], n: u64) -> usize
-    requires { length digits.old ≡ most_digits }
+fn put_digits(digits: &mut [u8; MOST_DIGITS], n: u64) -> usize
     ensures { DigitsFrom n result digits.new }
 {
-    let mut from = MOST_DIGITS;
     let mut rest = n;
-    while 10 <= rest {
-        from -= 1;
+    for from in (0..MOST_DIGITS).rev() {
+        if rest < 10 {
+            digits[from] = 48 + rest as u8;
+            return from;
+        }
         digits[from] = 48 + (rest % 10) as u8;
         rest /= 10;
     }
-    from -= 1;
-    digits[from] = 48 + rest as u8;
-    from
+    0
 }
 
 // A number in decimal.
@@ -32,8 +31,7 @@ pub fn put_decimal(out: &mut [u8], at: usize, n: u64) -> usize
 {
     let mut digits = [0u8; MOST_DIGITS];
     let from = put_digits(&mut digits, n);
-    octets::put_bytes(out, at, &digits[from..]);
-    at + (MOST_DIGITS - from)
+    put_word(out, at, &digits[from..])
 }
 
 // A digit below 16, in small letters.
@@ -41,10 +39,7 @@ fn digit(d: u8) -> u8
     requires { d < 16 }
     ensures { result ≡ digit d }
 {
-    if d < 10 {
-        return 48 + d;
-    }
-    87 + d
+    if d < 10 { 48 + d } else { 87 + d }
 }
 
 // Bytes in hex.
@@ -52,13 +47,10 @@ pub fn put_hex(out: &mut [u8], at: usize, bytes: &[u8]) -> usize
     requires { at + 2 * length bytes.now ≤ length out.old }
     ensures { WroteMost (2 * length bytes.now) (hex bytes.now) at result out.old out.new }
 {
-    let mut i = 0;
-    while i < bytes.len() {
-        let b = bytes[i];
+    for (i, b) in bytes.iter().enumerate() {
         octets::put_bytes(out, at + 2 * i, &[digit(b / 16), digit(b % 16)]);
-        i += 1;
     }
-    at + 2 * i
+    at + 2 * bytes.len()
 }
 
 // Bytes as they are.

@@ -1,15 +1,9 @@
--- After i turns `any` is 0 exactly if the first i bytes are.
-use borrow.Author.Rules.{rules}
-use mathlib.Core.Bool.{and-true}
-use mathlib.Core.Path.{◌∙◌}
-use lib.ListN.{drop_of_length-le}
-use Rattle.octets.proofs.Runs.{zero_more}
+-- The bytes joined by `|` are 0 exactly if each is.
+use Rattle.std.proofs.Common.{rules, ◌≡◌, fold, bit_or}
+use Rattle.octets.proofs.Runs.{zero_fold}
 use Rattle.octets.proofs.is_zero.Goals as goal
-
-pub loop-i-preserved : goal.loop-i-preserved
-loop-i-preserved c =
-    (search rules, zero_more c.args.s.now c.loop-i.i c.loop-i.any (search rules) ∙ c.loop-i.invariant.1)
 
 pub returns : goal.returns
 returns c =
-    rw (drop_of_length-le c.args.s.now c.loop-i-test.false, and-true) at c.loop-i.invariant.1
+    let joined : c.fold.result ≡ fold bit_or 0 c.args.s.now = search rules in
+    rw joined (zero_fold 0 c.args.s.now)
