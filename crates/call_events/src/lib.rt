@@ -110,7 +110,7 @@ fn arrives(img: &[u8], p: PpaNumber, sap: u8, r: &[u8]) -> Result<Brought, Refus
     if !is_called(img, p, r) {
         return Err(Refusal::NobodyThere);
     }
-    let i = table_lookup::listener(img, p, octets::wide(sap));
+    let i = table_lookup::listener(img, p, u32::from(sap));
     if STREAM_TOTAL <= i {
         return Err(Refusal::NobodyThere);
     }

@@ -76,10 +76,10 @@ fn up_line(b: &[u8]) -> Line
     ensures { result ≡ up_line b.now }
 {
     let i = octets::byte_at(b, 1);
-    match octets::number32_at(b, HEAD_SIZE) {
-        0x04 => Line::Given(i, octets::number32_at(b, GRANTED_AT)),
-        0x0e => Line::Came(i, octets::number32_at(b, NUMBER_AT)),
-        0x14 => end_line(i, octets::number32_at(b, ENDED_AT), End::Withdrawn),
+    match octets::number_at::<u32>(b, HEAD_SIZE) {
+        0x04 => Line::Given(i, octets::number_at::<u32>(b, GRANTED_AT)),
+        0x0e => Line::Came(i, octets::number_at::<u32>(b, NUMBER_AT)),
+        0x14 => end_line(i, octets::number_at::<u32>(b, ENDED_AT), End::Withdrawn),
         _ => Line::Nothing,
     }
 }
@@ -91,7 +91,7 @@ pub fn line_at(q: Input, b: &[u8]) -> Line
 {
     let kind = octets::byte_at(b, 0);
     let named = octets::byte_at(b, 1);
-    let n = octets::number32_at(b, START_SIZE);
+    let n = octets::number_at::<u32>(b, START_SIZE);
     match kind {
         b'a' => Line::Went(asker(q), n, End::Accepted),
         b'd' => end_line(named, n, parting(q)),

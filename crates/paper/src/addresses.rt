@@ -58,6 +58,6 @@ pub fn sap_at(r: &[u8], form: Form, at: usize) -> u16
 {
     match form {
         Form::WithSap => octets::byte_at(r, at) as u16,
-        Form::WithType => octets::number16_at(r, at),
+        Form::WithType => octets::number_at::<u16>(r, at),
     }
 }

@@ -6,7 +6,10 @@ ghost use Rattle.paper.specs.ErrorCodes.{complaint_of, reply_by};
 ghost use Rattle.paper.specs.Effects.{next, onward, unchanged, more, less, bound_in, acting, error_effect, ok, no_number, accepting, effect_of, event_effect};
 ghost use Rattle.paper.specs.Decide.{effect_by};
 
-use paper::{Change, Correlation, Effect, Event, LineOrder, PpaNumber, Reply, Rule, Service, State, StateRow, Stream, Token};
+use paper::{
+    Change, Correlation, Effect, Event, LineOrder, PpaNumber, Reply, Rule, Service, State,
+    StateRow, Stream, Token,
+};
 
 // ---- what becomes of a stream by row x
 
@@ -43,7 +46,11 @@ fn more(x: StateRow, s: Stream, n: Correlation) -> Change
 fn less(x: StateRow, s: Stream, n: Correlation) -> Change
     ensures { result ≡ less x s n }
 {
-    Change::Loses(paper_rules::settled(next(x), s), n, State::of_number(x.last))
+    Change::Loses(
+        paper_rules::settled(next(x), s),
+        n,
+        State::of_number(x.last),
+    )
 }
 
 // Bound.
@@ -100,7 +107,7 @@ pub fn error_effect(code: u32, rule: Rule) -> Effect
 fn ok(x: StateRow) -> Option<Reply>
     ensures { result ≡ ok x }
 {
-    Some(Reply::OkAck(octets::wide(x.cause)))
+    Some(Reply::OkAck(u32::from(x.cause)))
 }
 
 fn no_number() -> Correlation
@@ -220,7 +227,13 @@ pub fn event_effect(x: StateRow, s: Stream, event: Event) -> Effect
 }
 
 // The error of a rule that fails, to a message of this code, or what row x does that serves it.
-pub fn effect_by(x: StateRow, k: Token, code: u32, s: Stream, verdict: Result<Service, Rule>) -> Effect
+pub fn effect_by(
+    x: StateRow,
+    k: Token,
+    code: u32,
+    s: Stream,
+    verdict: Result<Service, Rule>,
+) -> Effect
     ensures { result ≡ effect_by (Some x) k code s verdict }
 {
     match verdict {

@@ -55,8 +55,8 @@ fn stream_from(c: &[u8]) -> Stream
     ensures { result ≡ stream_from c.now }
 {
     let state = State::of_number(c[STATE_OFFSET]);
-    let sap = octets::number16_inside(c, SAP_OFFSET);
-    let ppa = PpaNumber(octets::number32_inside(c, ATTACHED_OFFSET));
+    let sap = octets::number_inside::<u16>(c, SAP_OFFSET);
+    let ppa = PpaNumber(octets::number_inside::<u32>(c, ATTACHED_OFFSET));
     Stream {
         state: state,
         mode: c[MODE_OFFSET],
@@ -94,14 +94,14 @@ pub fn attached_at(img: &[u8], i: usize) -> PpaNumber
     requires { At i img.now }
     ensures { result ≡ (stream (table_of img.now) i).ppa }
 {
-    PpaNumber(octets::number32_inside(img, i * SLOT_SIZE + SLOTS_OFFSET + ATTACHED_OFFSET))
+    PpaNumber(octets::number_inside::<u32>(img, i * SLOT_SIZE + SLOTS_OFFSET + ATTACHED_OFFSET))
 }
 
 pub fn sap_at(img: &[u8], i: usize) -> u16
     requires { At i img.now }
     ensures { result ≡ (stream (table_of img.now) i).sap }
 {
-    octets::number16_inside(img, i * SLOT_SIZE + SLOTS_OFFSET + SAP_OFFSET)
+    octets::number_inside::<u16>(img, i * SLOT_SIZE + SLOTS_OFFSET + SAP_OFFSET)
 }
 
 // How many indications of a stream are open.
@@ -146,7 +146,7 @@ fn mask_in(img: &[u8]) -> u16
     requires { Held img.now }
     ensures { result ≡ mask_in img.now }
 {
-    octets::number16_inside(img, MASK_OFFSET)
+    octets::number_inside::<u16>(img, MASK_OFFSET)
 }
 
 fn mask_without(m: u16, i: usize) -> u16
@@ -205,7 +205,7 @@ pub fn close_slot(img: &mut [u8], i: usize)
     ensures { img.new ≡ image_of (with_slot (table_of img.old) i closed) }
 {
     let m = mask_with(mask_in(img), i);
-    octets::put_number16(img, MASK_OFFSET, m);
+    octets::put_number::<u16>(img, MASK_OFFSET, m);
     octets::put_bytes(img, i * SLOT_SIZE + SLOTS_OFFSET, &[0u8; SLOT_SIZE]);
 }
 
@@ -231,14 +231,14 @@ pub fn counter(img: &[u8]) -> u32
     requires { Held img.now }
     ensures { result ≡ (table_of img.now).counter }
 {
-    octets::number32_inside(img, COUNTER_OFFSET)
+    octets::number_inside::<u32>(img, COUNTER_OFFSET)
 }
 
 pub fn store_counter(img: &mut [u8], n: u32)
     requires { Lent img.old }
     ensures { img.new ≡ image_of (with_counter (table_of img.old) n) }
 {
-    octets::put_number32(img, COUNTER_OFFSET, n);
+    octets::put_number::<u32>(img, COUNTER_OFFSET, n);
 }
 
 // A PPA behind those that are there.
@@ -248,7 +248,7 @@ pub fn store_ppa(img: &mut [u8], p: PpaNumber, mac: &[u8])
 {
     let n = ppa_total(img);
     let at = (n as usize) * PLACE_SIZE + PLACES_OFFSET;
-    octets::put_number32(img, at, p.0);
+    octets::put_number::<u32>(img, at, p.0);
     octets::put_bytes(img, at + MAC_OFFSET, mac);
     octets::put_bytes(img, PPA_COUNT_OFFSET, &[n + 1]);
 }
@@ -259,6 +259,6 @@ pub fn make_fresh(img: &mut [u8])
     ensures { img.new ≡ image_of fresh }
 {
     octets::put_bytes(img, 0, &[0u8; IMAGE_SIZE]);
-    octets::put_number16(img, MASK_OFFSET, 65535);
-    octets::put_number32(img, COUNTER_OFFSET, 1);
+    octets::put_number::<u16>(img, MASK_OFFSET, 65535);
+    octets::put_number::<u32>(img, COUNTER_OFFSET, 1);
 }

@@ -20,7 +20,7 @@ fn is_ppa(img: &[u8], p: PpaNumber, k: usize) -> bool
     ensures { result ≡ eqb (get_or (table_of img.now).ppas k no_ppa).number.0 p.0 }
 {
     let at = k * PLACE_SIZE + PLACES_OFFSET;
-    octets::number32_inside(&img[at..at + PLACE_SIZE], 0) == p.0
+    octets::number_inside::<u32>(&img[at..at + PLACE_SIZE], 0) == p.0
 }
 
 // The place of the PPA with a number.

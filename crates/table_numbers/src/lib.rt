@@ -29,7 +29,7 @@ pub fn number_at(img: &[u8], i: usize, k: usize) -> Correlation
     requires { LentNumber i k img.now }
     ensures { result ≡ record { 0 = get_or (waiting (table_of img.now) i) k 0 } }
 {
-    Correlation(octets::number32_inside(img, i * SLOT_SIZE + k * 4 + FIRST_NUMBER))
+    Correlation(octets::number_inside::<u32>(img, i * SLOT_SIZE + k * 4 + FIRST_NUMBER))
 }
 
 // The first place of a number among a stream's open ones.
@@ -144,7 +144,7 @@ fn one_number_more(img: &[u8], i: usize, n: u32) -> [u8; NUMBER_BYTES]
 {
     let count = table_image::count_at(img, i);
     let mut bytes = numbers_of(img, i);
-    octets::put_number32(&mut bytes, (count as usize) * 4 + 1, n);
+    octets::put_number::<u32>(&mut bytes, (count as usize) * 4 + 1, n);
     bytes[0] = count + 1;
     bytes
 }

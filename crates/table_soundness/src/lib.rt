@@ -73,7 +73,7 @@ fn ppa_number(img: &[u8], k: usize) -> u32
     requires { LentPpa k img.now }
     ensures { result ≡ get_or (ppa_numbers (table_of img.now)) k 0 }
 {
-    octets::number32_inside(img, k * PLACE_SIZE + PLACES_OFFSET)
+    octets::number_inside::<u32>(img, k * PLACE_SIZE + PLACES_OFFSET)
 }
 
 // How often a number is that of a PPA.

@@ -9,13 +9,16 @@ ghost use Rattle.paper.specs.Messages.{code_in, other_code, primitive_of, sized,
 ghost use Rattle.paper.specs.declared.Primitive.TheVariants as primitive;
 ghost use Rattle.wire_messages.specs.Whole.{Whole};
 
-use paper::{BindRequest, ConnectRequest, ConnectResponse, Correlation, DisconnectRequest, Form, MAC_SIZE, PpaNumber, Primitive, Request, Rule, Token, UnitdataRequest};
+use paper::{
+    BindRequest, ConnectRequest, ConnectResponse, Correlation, DisconnectRequest, Form, MAC_SIZE,
+    PpaNumber, Primitive, Request, Rule, Token, UnitdataRequest,
+};
 
 pub fn code_in(m: &[u8]) -> u32
     requires { 4 ≤ length m.now }
     ensures { result ≡ code_in m.now }
 {
-    octets::number32_inside(m, 0)
+    octets::number_inside::<u32>(m, 0)
 }
 
 // The codes that are not in the paper's table: seven of them are known, but not supported.
@@ -68,7 +71,7 @@ fn of_size(size: usize, m: &[u8], q: Request) -> Result<Request, Rule>
 fn attach_in(m: &[u8]) -> Result<Request, Rule>
     ensures { result ≡ read_as primitive.Attach m.now }
 {
-    let ppa = PpaNumber(octets::number32_at(m, 4));
+    let ppa = PpaNumber(octets::number_at::<u32>(m, 4));
     of_size(8, m, Request::Attach(ppa))
 }
 
@@ -76,11 +79,11 @@ fn bind_in(m: &[u8]) -> Result<Request, Rule>
     ensures { result ≡ read_as primitive.Bind m.now }
 {
     let asked = BindRequest {
-        sap: octets::number32_at(m, 4),
-        most: octets::number32_at(m, 8),
-        mode: octets::number16_at(m, 12),
-        management: octets::number16_at(m, 14),
-        xidtest: octets::number32_at(m, 16),
+        sap: octets::number_at::<u32>(m, 4),
+        most: octets::number_at::<u32>(m, 8),
+        mode: octets::number_at::<u16>(m, 12),
+        management: octets::number_at::<u16>(m, 14),
+        xidtest: octets::number_at::<u32>(m, 16),
     };
     of_size(20, m, Request::Bind(asked))
 }
@@ -90,11 +93,11 @@ fn connect_in(m: &[u8]) -> Result<Request, Rule>
     requires { length m.now ≤ block_size }
     ensures { result ≡ read_as primitive.Connect m.now }
 {
-    let offset = octets::number32_at(m, 8);
+    let offset = octets::number_at::<u32>(m, 8);
     let asked = ConnectRequest {
-        length: octets::number32_at(m, 4),
+        length: octets::number_at::<u32>(m, 4),
         offset,
-        qos: octets::number32_at(m, 12),
+        qos: octets::number_at::<u32>(m, 12),
         size: m.len() as u8,
         last: octets::byte_at(m, offset as usize + MAC_SIZE),
     };
@@ -105,9 +108,9 @@ fn connect_res_in(m: &[u8]) -> Result<Request, Rule>
     ensures { result ≡ read_as primitive.ConnectRes m.now }
 {
     let answer = ConnectResponse {
-        correlation: Correlation(octets::number32_at(m, 4)),
-        token: Token(octets::number32_at(m, 8)),
-        qos: octets::number32_at(m, 12),
+        correlation: Correlation(octets::number_at::<u32>(m, 4)),
+        token: Token(octets::number_at::<u32>(m, 8)),
+        qos: octets::number_at::<u32>(m, 12),
     };
     of_size(24, m, Request::ConnectRes(answer))
 }
@@ -116,8 +119,8 @@ fn disconnect_in(m: &[u8]) -> Result<Request, Rule>
     ensures { result ≡ read_as primitive.Disconnect m.now }
 {
     let asked = DisconnectRequest {
-        reason: octets::number32_at(m, 4),
-        correlation: Correlation(octets::number32_at(m, 8)),
+        reason: octets::number_at::<u32>(m, 4),
+        correlation: Correlation(octets::number_at::<u32>(m, 8)),
     };
     of_size(12, m, Request::Disconnect(asked))
 }
@@ -127,8 +130,8 @@ fn unitdata_in(m: &[u8]) -> Result<Request, Rule>
     requires { length m.now ≤ block_size }
     ensures { result ≡ read_as primitive.Unitdata m.now }
 {
-    let length = octets::number32_at(m, 4);
-    let offset = octets::number32_at(m, 8);
+    let length = octets::number_at::<u32>(m, 4);
+    let offset = octets::number_at::<u32>(m, 8);
     let asked = UnitdataRequest {
         length,
         offset,

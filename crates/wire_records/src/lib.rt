@@ -10,8 +10,8 @@ ghost use Rattle.paper.specs.declared.Kind.TheVariants as kind;
 
 use octets::BLOCK_SIZE;
 use paper::{
-    ADDRESS_SIZE, Correlation, DATA_SIZE, Form, Frame, HEAD_SIZE, Input, Kind, MAC_SIZE, MESSAGE_SIZE,
-    MOST_ADDRESS, MOST_DATA, PAIR_SIZE, PpaNumber,
+    ADDRESS_SIZE, Correlation, DATA_SIZE, Form, Frame, HEAD_SIZE, Input, Kind, MAC_SIZE,
+    MESSAGE_SIZE, MOST_ADDRESS, MOST_DATA, PAIR_SIZE, PpaNumber,
 };
 
 // The letters.
@@ -69,7 +69,7 @@ fn wants_data(r: &[u8]) -> bool
     requires { message_size ≤ length r.now }
     ensures { result ≡ wants_data r.now }
 {
-    if octets::number32_inside(r, HEAD_SIZE) != 0x07 {
+    if octets::number_inside::<u32>(r, HEAD_SIZE) != 0x07 {
         return false;
     }
     let l = octets::byte_at(r, 2) as usize;
@@ -188,9 +188,9 @@ fn read_frame(r: &[u8]) -> Input
     if has_nonzero_past(r, 23, MOST_DATA, bytes) {
         return Input::Malformed;
     }
-    let form = Form::of_length(octets::wide(n));
+    let form = Form::of_length(u32::from(n));
     let sap = paper::sap_at(r, form, 12);
-    let ppa = PpaNumber(octets::number32_at(r, 1));
+    let ppa = PpaNumber(octets::number_at::<u32>(r, 1));
     Input::Frame(Frame {
         ppa,
         form,
@@ -206,22 +206,22 @@ fn input_as(k: Kind, r: &[u8]) -> Input
 {
     let stream = octets::byte_at(r, 1);
     match k {
-        Kind::AddPpa => Input::AddPpa(PpaNumber(octets::number32_at(r, 1))),
+        Kind::AddPpa => Input::AddPpa(PpaNumber(octets::number_at::<u32>(r, 1))),
         Kind::Open => Input::Open,
         Kind::Close => Input::Close(stream),
         Kind::Message => read_message(r),
         Kind::CallArrives => Input::CallArrives(
-            PpaNumber(octets::number32_at(r, 1)),
+            PpaNumber(octets::number_at::<u32>(r, 1)),
             octets::byte_at(r, 11),
         ),
         Kind::PeerAccepted => Input::PeerAccepted(stream),
-        Kind::PeerGone => Input::PeerGone(stream, octets::number32_at(r, 2)),
+        Kind::PeerGone => Input::PeerGone(stream, octets::number_at::<u32>(r, 2)),
         Kind::CallWithdrawn => Input::CallWithdrawn(
             stream,
-            Correlation(octets::number32_at(r, 2)),
-            octets::number32_at(r, 6),
+            Correlation(octets::number_at::<u32>(r, 2)),
+            octets::number_at::<u32>(r, 6),
         ),
-        Kind::PeerReset => Input::PeerReset(stream, octets::number32_at(r, 2)),
+        Kind::PeerReset => Input::PeerReset(stream, octets::number_at::<u32>(r, 2)),
         Kind::ResetConfirmed => Input::ResetConfirmed(stream),
         Kind::Data => Input::Malformed,
         Kind::Frame => read_frame(r),

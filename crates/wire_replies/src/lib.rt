@@ -35,7 +35,7 @@ fn put_accept(room: &mut [u8], s: u8, c: Correlation) -> usize
     ensures { Wrote (bytes_of (order s (LineOrder.Accept c) [])) 0 result room.old room.new }
 {
     let at = put_start(room, b'a', s);
-    octets::put_number32(room, at, c.0);
+    octets::put_number::<u32>(room, at, c.0);
     ACCEPT_SIZE
 }
 
@@ -45,8 +45,8 @@ fn put_disconnect(room: &mut [u8], s: u8, c: Correlation, reason: u32) -> usize
     ensures { Wrote (bytes_of (order s (LineOrder.Disconnect c reason) [])) 0 result room.old room.new }
 {
     let at = put_start(room, b'd', s);
-    octets::put_number32(room, at, c.0);
-    octets::put_number32(room, at + 4, reason);
+    octets::put_number::<u32>(room, at, c.0);
+    octets::put_number::<u32>(room, at + 4, reason);
     DISCONNECT_SIZE
 }
 
@@ -160,8 +160,8 @@ fn put_info_fields(
     requires { BehindInfo address tail.now room.old }
     ensures { WroteMost message_size (message_bytes true s (flat (0x03 ∷ info_fields state address sap mode offset) ++ tail.now)) 0 result room.old room.new }
 {
-    let q = octets::wide(state);
-    let m = octets::wide(mode);
+    let q = u32::from(state);
+    let m = u32::from(mode);
     let broadcast = 76 + address;
     let fields = [
         0x03, 1497, 0, address, 0, 0, q, sap, m, 0, 0, 0, 0, 0x0501, offset, 2, 6, broadcast, 0,
@@ -199,7 +199,7 @@ fn put_bound(room: &mut [u8], s: u8, sap: u16, granted: u8, tail: &[u8]) -> usiz
     ensures { WroteMost message_size (bytes_of (up s (Reply.BindAck sap granted) tail.now)) 0 result room.old room.new }
 {
     let address = MAC_SIZE as u32 + paper::sap_length(sap as u32);
-    let most = octets::wide(granted);
+    let most = u32::from(granted);
     put_message(
         room,
         b'C',
@@ -279,7 +279,7 @@ pub fn put_address(room: &mut [u8], mac: [u8; MAC_SIZE], sap: u16) -> usize
         octets::put_bytes(room, MAC_SIZE, &[sap as u8]);
         return ADDRESS_SIZE;
     }
-    octets::put_number16(room, MAC_SIZE, sap);
+    octets::put_number::<u16>(room, MAC_SIZE, sap);
     MOST_ADDRESS
 }
 

@@ -31,7 +31,7 @@ returns-then-not-is_called c =
 pub returns-then-i-ge-STREAM_TOTAL : goal.returns-then-i-ge-STREAM_TOTAL
 unfolding arrives is_listened_for ◌⇒◌∣◌
 returns-then-i-ge-STREAM_TOTAL c =
-    let e = c.listener-i.ensures ∙ ap (listener (table_of c.args.img.now) c.args.p) c.wide.ensures.is in
+    let e = c.listener-i.ensures ∙ ap (listener (table_of c.args.img.now) c.args.p) c.from.ensures in
     record {
       comes =
           rw (
@@ -46,7 +46,7 @@ pub returns : goal.returns
 unfolding arrives is_listened_for ◌⇒◌∣◌
 returns c =
     let t = table_of c.args.img.now in
-    let e = c.listener-i.ensures ∙ ap (listener t c.args.p) c.wide.ensures.is in
+    let e = c.listener-i.ensures ∙ ap (listener t c.args.p) c.from.ensures in
     record {
       comes =
           ap₂ (λ (j n : ℕ). comes state_rows t j c.args.r.now (brings busy (event.Arrives (record { 0 = n })))) e c.next_number-n.ensures

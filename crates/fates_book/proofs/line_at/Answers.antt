@@ -7,12 +7,12 @@ use Rattle.fates_book.proofs.line_at.Goals as goal
 
 pub returns-in-97 : goal.returns-in-97
 unfolding line_at ◌⇒◌∣◌
-returns-in-97 c = simp (← c.byte_at-kind.ensures, ← c.number32_at-n.ensures, c.in-97.is, ← c.asker.ensures)
+returns-in-97 c = simp (← c.byte_at-kind.ensures, ← c.number_at-n.ensures, c.in-97.is, ← c.asker.ensures)
 
 pub returns-in-100 : goal.returns-in-100
 unfolding line_at ◌⇒◌∣◌
 returns-in-100 c =
-    simp (← c.byte_at-kind.ensures, ← c.byte_at-named.ensures, ← c.number32_at-n.ensures, c.in-100.is, ← c.parting.ensures)
+    simp (← c.byte_at-kind.ensures, ← c.byte_at-named.ensures, ← c.number_at-n.ensures, c.in-100.is, ← c.parting.ensures)
     c.end_line.ensures
 
 pub returns-in_default : goal.returns-in_default

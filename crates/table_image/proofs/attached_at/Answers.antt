@@ -15,4 +15,4 @@ returns c =
     let i = c.args.i in
     let number = part-be32 img (slot_base i) slot_size attached_offset (slot_base i + attached_offset) (omega arith) refl in
     ap (λ (n : ℕ). record { 0 = n })
-    (c.number32_inside.ensures ∙ sym (ap (λ (x : Slot). x.stream.ppa.0) (slot-at img i c.requires.within) ∙ number))
+    (c.number_inside.ensures ∙ sym (ap (λ (x : Slot). x.stream.ppa.0) (slot-at img i c.requires.within) ∙ number))

@@ -28,7 +28,7 @@ returns c =
     let l = c.requires.at.lent in
     c.put_bytes.ensures
     ∙ ap (λ (r : List ℕ). paste r (slot_base i) (replicate slot_size 0))
-    (c.put_number16.ensures
+    (c.put_number.ensures
     ∙ ap₂ (λ (r : List ℕ) (m : ℕ). paste r mask_offset (be16 m)) (sym l.same)
     (c.mask_with-m.ensures ∙ ap (λ (m : ℕ). m + 2 ^ i) (c.mask_in.ensures ∙ mask_lent img l)))
     ∙ store_closing (table_of img) l.shaped i c.requires.at.within c.requires.opened

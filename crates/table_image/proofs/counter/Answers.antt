@@ -4,4 +4,4 @@ use Rattle.table_image.proofs.counter.Goals as goal
 
 pub returns : goal.returns
 unfolding table_of
-returns c = c.number32_inside.ensures
+returns c = c.number_inside.ensures

@@ -13,8 +13,8 @@ pub returns : goal.returns
 unfolding image_of header_bytes stream_bytes waiting_bytes
 returns c =
     let zeros : List ℕ = replicate image_size 0 in
-    c.put_number32.ensures
+    c.put_number-2.ensures
     ∙ ap (λ (r : List ℕ). paste r counter_offset (be32 1))
-    (c.put_number16.ensures
+    (c.put_number.ensures
     ∙ ap (λ (r : List ℕ). paste r mask_offset (be16 65535))
     (c.put_bytes.ensures ∙ ap (λ (r : List ℕ). zeros ++ r) (drop_of_length-le c.args.img.now {i = image_size} (omega arith))))

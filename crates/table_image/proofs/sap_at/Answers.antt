@@ -13,4 +13,4 @@ unfolding slot_at stream_from
 returns c =
     let img = c.args.img.now in
     let i = c.args.i in
-    c.number16_inside.ensures ∙ sym (ap (λ (x : Slot). x.stream.sap) (slot-at img i c.requires.within) ∙ part-be16 img (slot_base i) slot_size sap_offset (slot_base i + sap_offset) (omega arith) refl)
+    c.number_inside.ensures ∙ sym (ap (λ (x : Slot). x.stream.sap) (slot-at img i c.requires.within) ∙ part-be16 img (slot_base i) slot_size sap_offset (slot_base i + sap_offset) (omega arith) refl)

@@ -11,6 +11,6 @@ use Rattle.table_image.proofs.store_counter.Goals as goal
 pub returns : goal.returns
 returns c =
     let n = c.args.n in
-    c.put_number32.ensures
+    c.put_number.ensures
     ∙ ap (λ (r : List ℕ). paste r counter_offset (be32 n)) (sym c.requires.same)
     ∙ store_counter (table_of c.args.img.now) n

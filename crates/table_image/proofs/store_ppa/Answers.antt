@@ -23,7 +23,7 @@ returns c =
     c.put_bytes-2.ensures
     ∙ ap (λ (r : List ℕ). paste r ppa_count_offset ((n + 1) ∷ []))
     (c.put_bytes.ensures
-    ∙ ap (λ (r : List ℕ). paste r (ppa_base n + 4) p.mac) c.put_number32.ensures
+    ∙ ap (λ (r : List ℕ). paste r (ppa_base n + 4) p.mac) c.put_number.ensures
     ∙ sym (paste_join img (ppa_base n) (be32 p.number.0) p.mac (omega arith)))
     ∙ (λ d. paste (paste (sym l.same d) (ppa_base (e d)) (ppa_bytes p)) ppa_count_offset ((o ∙ ap suc e) d ∷ []))
     ∙ store_ppa (table_of img) l.shaped p c.requires.place c.requires.given.six

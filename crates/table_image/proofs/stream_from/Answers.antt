@@ -4,4 +4,4 @@ use Rattle.table_image.proofs.stream_from.Goals as goal
 
 pub returns : goal.returns
 unfolding stream_from
-returns c = rw (c.number32_inside.ensures, c.number16_inside-sap.ensures, c.of_number-state.ensures)
+returns c = rw (c.number_inside.ensures, c.number_inside-sap.ensures, c.of_number-state.ensures)

@@ -8,4 +8,4 @@ pub returns : goal.returns
 returns c =
     let a = c.args in
     let w = waiting (table_of a.img.now) a.i in
-    rw (c.put_number32.ensures, c.numbers_of-bytes.ensures, c.count_at-count.ensures) (more_bytes w a.n c.requires.place)
+    rw (c.put_number.ensures, c.numbers_of-bytes.ensures, c.count_at-count.ensures) (more_bytes w a.n c.requires.place)

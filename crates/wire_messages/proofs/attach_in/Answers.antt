@@ -2,4 +2,4 @@
 use Rattle.wire_messages.proofs.attach_in.Goals as goal
 
 pub returns : goal.returns
-returns c = rw (c.of_size.ensures, c.number32_at.ensures)
+returns c = rw (c.of_size.ensures, c.number_at.ensures)

@@ -5,9 +5,9 @@ pub returns : goal.returns
 returns c =
     rw (
       c.of_size.ensures,
-      c.number32_at-3.ensures,
-      c.number16_at-2.ensures,
-      c.number16_at.ensures,
-      c.number32_at-2.ensures,
-      c.number32_at.ensures,
+      c.number_at-5.ensures,
+      c.number_at-4.ensures,
+      c.number_at-3.ensures,
+      c.number_at-2.ensures,
+      c.number_at.ensures,
     )

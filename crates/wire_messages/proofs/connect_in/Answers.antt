@@ -6,7 +6,7 @@ returns c =
     rw (
       c.of_size.ensures,
       c.byte_at.ensures,
-      c.number32_at-2.ensures,
-      c.number32_at.ensures,
-      c.number32_at-offset.ensures,
+      c.number_at-2.ensures,
+      c.number_at.ensures,
+      c.number_at-offset.ensures,
     )

@@ -2,4 +2,4 @@
 use Rattle.wire_messages.proofs.connect_res_in.Goals as goal
 
 pub returns : goal.returns
-returns c = rw (c.of_size.ensures, c.number32_at-3.ensures, c.number32_at-2.ensures, c.number32_at.ensures)
+returns c = rw (c.of_size.ensures, c.number_at-3.ensures, c.number_at-2.ensures, c.number_at.ensures)

@@ -7,6 +7,6 @@ returns c =
       c.of_size.ensures,
       c.sap_at.ensures,
       c.of_length.ensures,
-      c.number32_at-offset.ensures,
-      c.number32_at-length.ensures,
+      c.number_at-offset.ensures,
+      c.number_at-length.ensures,
     )

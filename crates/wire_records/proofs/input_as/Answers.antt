@@ -8,7 +8,7 @@ pub read_frame-requires : goal.read_frame-requires
 read_frame-requires c = rw c.in-Frame.is at c.requires
 
 pub returns-in-AddPpa : goal.returns-in-AddPpa
-returns-in-AddPpa c = rw (c.in-AddPpa.is, c.number32_at.ensures)
+returns-in-AddPpa c = rw (c.in-AddPpa.is, c.number_at.ensures)
 
 pub returns-in-Close : goal.returns-in-Close
 returns-in-Close c = rw (c.in-Close.is, c.byte_at-stream.ensures)
@@ -17,20 +17,20 @@ pub returns-in-Message : goal.returns-in-Message
 returns-in-Message c = rw c.in-Message.is c.read_message.ensures
 
 pub returns-in-CallArrives : goal.returns-in-CallArrives
-returns-in-CallArrives c = rw (c.in-CallArrives.is, c.byte_at.ensures, c.number32_at-in-CallArrives.ensures)
+returns-in-CallArrives c = rw (c.in-CallArrives.is, c.byte_at.ensures, c.number_at-in-CallArrives.ensures)
 
 pub returns-in-PeerAccepted : goal.returns-in-PeerAccepted
 returns-in-PeerAccepted c = rw (c.in-PeerAccepted.is, c.byte_at-stream.ensures)
 
 pub returns-in-PeerGone : goal.returns-in-PeerGone
-returns-in-PeerGone c = rw (c.in-PeerGone.is, c.number32_at-in-PeerGone.ensures, c.byte_at-stream.ensures)
+returns-in-PeerGone c = rw (c.in-PeerGone.is, c.number_at-in-PeerGone.ensures, c.byte_at-stream.ensures)
 
 pub returns-in-CallWithdrawn : goal.returns-in-CallWithdrawn
 returns-in-CallWithdrawn c =
-    rw (c.in-CallWithdrawn.is, c.number32_at-in-CallWithdrawn-2.ensures, c.number32_at-in-CallWithdrawn.ensures, c.byte_at-stream.ensures)
+    rw (c.in-CallWithdrawn.is, c.number_at-in-CallWithdrawn-2.ensures, c.number_at-in-CallWithdrawn.ensures, c.byte_at-stream.ensures)
 
 pub returns-in-PeerReset : goal.returns-in-PeerReset
-returns-in-PeerReset c = rw (c.in-PeerReset.is, c.number32_at-in-PeerReset.ensures, c.byte_at-stream.ensures)
+returns-in-PeerReset c = rw (c.in-PeerReset.is, c.number_at-in-PeerReset.ensures, c.byte_at-stream.ensures)
 
 pub returns-in-ResetConfirmed : goal.returns-in-ResetConfirmed
 returns-in-ResetConfirmed c = rw (c.in-ResetConfirmed.is, c.byte_at-stream.ensures)

@@ -61,4 +61,4 @@ returns c =
       ← c.byte_at-bytes.ensures,
       ← c.has_nonzero_past-3.ensures,
       c.if-has_nonzero_past-3.false,
-    ) (rw (c.number32_at.ensures, c.sap_at-sap.ensures, c.of_length-form.ensures, c.wide.ensures.is))
+    ) (rw (c.number_at.ensures, c.sap_at-sap.ensures, c.of_length-form.ensures, c.from.ensures))

@@ -8,4 +8,4 @@ use Rattle.wire_replies.proofs.put_accept.Goals as goal
 pub returns : goal.returns
 returns c =
     let a = c.args in
-    wrote_put (97 ∷ a.s ∷ []) (be32 a.c.0) (omega arith) c.put_start-at.ensures c.put_number32.ensures (omega arith)
+    wrote_put (97 ∷ a.s ∷ []) (be32 a.c.0) (omega arith) c.put_start-at.ensures c.put_number.ensures (omega arith)

@@ -32,4 +32,4 @@ pub returns : goal.returns
 returns c =
     let a = c.args in
     let sap : sap_bytes a.sap ≡ be16 a.sap = rw (le-ltb _ _ c.if-sap-lt256.false) in
-    written a.mac a.room.now a.sap (search rules) sap refl (omega arith) c.put_bytes.ensures c.put_number16.ensures
+    written a.mac a.room.now a.sap (search rules) sap refl (omega arith) c.put_bytes.ensures c.put_number.ensures

@@ -16,5 +16,5 @@ returns c =
     let a = c.args in
     let fields : ℕ → ℕ → List ℕ = λ (n g : ℕ). 4 ∷ a.sap ∷ (mac_size + n) ∷ 24 ∷ g ∷ 0 ∷ [] in
     wrote-same
-    (ap₂ (λ (n g : ℕ). message_bytes true a.s (flat (fields n g) ++ a.tail.now)) c.sap_length.ensures.is c.wide-most.ensures.is)
+    (ap₂ (λ (n g : ℕ). message_bytes true a.s (flat (fields n g) ++ a.tail.now)) c.sap_length.ensures.is c.from-most.ensures)
     c.put_message.ensures

@@ -14,5 +14,5 @@ returns c =
     let a = c.args in
     let fields : ℕ → ℕ → List ℕ = λ (q m : ℕ). 3 ∷ info_fields q a.address a.sap m a.offset in
     wrote-same
-    (ap₂ (λ (q m : ℕ). message_bytes true a.s (flat (fields q m) ++ a.tail.now)) c.wide-q.ensures.is c.wide-m.ensures.is)
+    (ap₂ (λ (q m : ℕ). message_bytes true a.s (flat (fields q m) ++ a.tail.now)) c.from-q.ensures c.from-m.ensures)
     c.put_message.ensures

@@ -8,4 +8,4 @@ returns-in-WithSap c = rw c.in-WithSap.is c.byte_at.ensures
 
 pub returns-in-WithType : goal.returns-in-WithType
 unfolding sap_at
-returns-in-WithType c = rw c.in-WithType.is c.number16_at.ensures
+returns-in-WithType c = rw c.in-WithType.is c.number_at.ensures
