@@ -33,7 +33,7 @@ impl Program for Fates {
         at: usize,
         _n: u64,
     ) -> Printed {
-        let answer = call_engine::call_sound(table, bytes, room);
+        let answer = call_outcomes::call_number(call_engine::call_sound(table, bytes, room));
         let end = fates_report::tell_call(&mut self.register, out, at, bytes, answer, room);
         Printed {
             end,

@@ -31,10 +31,11 @@ impl Program for Replay {
         n: u64,
     ) -> Printed {
         let answer = call_engine::call_sound(table, bytes, room);
-        let end = replay_transcript::put_call(out, at, n, answer, room);
+        let number = call_outcomes::call_number(answer);
+        let end = replay_transcript::put_call(out, at, n, number, room);
         Printed {
             end,
-            refused: 0 < answer / 65536 % 256,
+            refused: call_outcomes::is_refused(answer),
         }
     }
 

@@ -1,6 +1,6 @@
 -- What is printed is the text of the answer and of the bytes that the call wrote, and those are what the call is defined to leave, whatever
 -- stood in the room.
-use Prim.Native.Nat.{ℕ, ◌/◌, ◌%◌}
+use Prim.Native.Nat.{ℕ, ◌%◌}
 use native.Mathlib.Omega.{arith}
 use mathlib.Core.Path.{◌≡◌, refl, sym, ap, subst, ◌∙◌}
 use lib.Dec.{ltb}
@@ -8,7 +8,7 @@ use lib.ListN.{take, replicate}
 use Rattle.octets.proofs.Writing.{wrote-same}
 use Rattle.paper.specs.Room.{frame_room_size}
 use Rattle.table_image.specs.Layout.{sound_image}
-use Rattle.call_outcomes.specs.Leaving.{Left, call_made}
+use Rattle.call_outcomes.specs.Leaving.{Left, refusal_in, call_made}
 use Rattle.call_outcomes.proofs.Rooms.{SameBack, made_in}
 use Rattle.keeping.proofs.Images.{call_keeps}
 use Rattle.replay_transcript.specs.Transcript.{call_text}
@@ -32,6 +32,8 @@ returns c =
       image = same.image;
       kept = refl;
       holds = ap sound_image same.image ∙ kept;
-      wrote = wrote-same (same_text a.n _ made same) c.put_call-end.ensures;
-      told = ap (λ (k : ℕ). ltb 0 (k / 65536 % 256)) same.number;
+      wrote =
+          wrote-same (ap (λ (k : ℕ). call_text a.n k c.call_sound-answer.new.room) c.call_number-number.ensures ∙ same_text a.n _ made same)
+          c.put_call-end.ensures;
+      told = c.is_refused.ensures ∙ ap (λ (k : ℕ). ltb 0 (refusal_in k)) same.number;
     }
