@@ -1,37 +1,16 @@
--- Laws of searches: one goes from place 0 on and none before the place reached passes the test, so what stands there ends it or sends it on.
-use Prim.Native.Nat.{ℕ, zero, suc, ◌+◌, ◌≤◌, ◌<◌}
+-- Laws of searches for the first that passes a test.
+use Prim.Native.Nat.{ℕ, suc, ◌+◌, ◌≤◌, ◌<◌}
 use native.Mathlib.Omega.{arith}
 use native.Mathlib.Nat.{zero-add}
 use mathlib.Core.Path.{◌≡◌, refl, sym, ap, ap₂, ◌∙◌}
 use mathlib.Core.Bool.{Bool, true, false}
 use mathlib.Core.List.{List, [], ◌∷◌, map, ◌++◌}
-use lib.ListN.{length, get_or, take, drop}
+use lib.ListN.{length, take, drop}
 use lib.Dec.{eqb, ltb, leb-suc-suc}
 use borrow.Author.Tests.{eqb-true, eqb-false, eq-eqb, ne_eqb, lt-ltb, le-ltb, ltb-false}
 use Rattle.ledger.specs.Choice.{pick}
 use Rattle.ledger.specs.Tally.{one_if, occ, has, first_of, without}
 use Rattle.ledger.proofs.Tallies.{picked}
-
-module _ {A : Type 0} (f : A → Bool) (d : A) where
-  -- the place reached passes it
-  pub first_hit : (l : List A) (i : ℕ) → i < length l → i ≤ first_of f l → f (get_or l i d) ≡ true → i ≡ first_of f l
-  first_hit [] i h m e = absurd (omega arith)
-  first_hit (x ∷ l) zero h m e = rw e
-  first_hit (x ∷ l) (suc i) h m e = go (f x) m (λ k. first_hit l i (omega arith) k e)
-    where
-      go : (b : Bool) → suc i ≤ pick b 0 (suc (first_of f l)) → (i ≤ first_of f l → i ≡ first_of f l) → suc i ≡ pick b 0 (suc (first_of f l))
-      go true m r = absurd (omega arith)
-      go false m r = ap suc (r (omega arith))
-
-  -- or it does not
-  pub first-miss : (l : List A) (i : ℕ) → i < length l → i ≤ first_of f l → f (get_or l i d) ≡ false → i < first_of f l
-  first-miss [] i h m e = absurd (omega arith)
-  first-miss (x ∷ l) zero h m e = rw e (omega arith)
-  first-miss (x ∷ l) (suc i) h m e = go (f x) m (λ k. first-miss l i (omega arith) k e)
-    where
-      go : (b : Bool) → suc i ≤ pick b 0 (suc (first_of f l)) → (i ≤ first_of f l → i < first_of f l) → suc i < pick b 0 (suc (first_of f l))
-      go true m r = absurd (omega arith)
-      go false m r = omega (arith, r (omega arith))
 
 -- a search goes no further than the list
 pub first-end : {A : Type 0} (f : A → Bool) (l : List A) → first_of f l ≤ length l

@@ -1,6 +1,6 @@
 -- The open numbers of a stream lie one behind the other with zeros behind them: so one more goes over the first zeros, and where
 -- one goes, those behind it move up.
-use Rattle.std.proofs.Common.{◌≡◌, ℕ, suc, ◌+◌, ◌-◌, ◌*◌, ◌<◌, ◌≤◌, List, [], ◌∷◌, ◌++◌, length, get_or, take, drop, set, replicate, sym, ap, ◌∙◌, ap₂, append_assoc, append-nil, add-one, arith, length-append, length-drop, length-take-le, take_all, drop-cons, take_at, drop_at}
+use Rattle.std.proofs.Common.{◌≡◌, ℕ, suc, ◌+◌, ◌-◌, ◌*◌, ◌<◌, ◌≤◌, List, [], ◌∷◌, ◌++◌, length, get_or, take, drop, set, replicate, sym, ap, ◌∙◌, ap₂, append_assoc, append-nil, arith, length-append, length-drop, length-take-le, take_all, take_at, drop_at}
 use lib.ListN.{length-replicate, replicate-append-replicate}
 use lib.Seq.{split_at}
 use Rattle.octets.specs.Numbers.{be32_at, be32}
@@ -17,7 +17,7 @@ use Rattle.table_image.specs.Lent.{Lent, LentNumber}
 use Rattle.table_image.proofs.Shapes.{stream-length}
 use Rattle.table_image.proofs.Stored.{store_numbers}
 use Rattle.table_image.proofs.TableBack.{slot-at, slot-part}
-use Rattle.ledger.specs.Lists.{listed, joined}
+use Rattle.ledger.specs.Lists.{listed}
 use Rattle.ledger.proofs.Lists.{listed-length, listed_at, joined_append}
 use Rattle.paper.specs.Saps.{most_open}
 
@@ -65,19 +65,6 @@ module _ (img : List ℕ) (l : Lent img) (i : ℕ) (b : i < stream_total) where
       → paste img (slot_base i) (stream_bytes s ++ waiting_bytes w) ≡ image_of (with_numbers (table_of img) i s w)
   numbers_stored s w h =
       ap (λ (r : List ℕ). paste r (slot_base i) (stream_bytes s ++ waiting_bytes w)) (sym l.same) ∙ store_numbers (table_of img) l.shaped i b s w h
-
--- ---- in a row
-
--- what one of a list has is copied behind what those before it have
-pub copied_on : {A : Type 0} (f : A → List ℕ) (d : A) (l : List A) (i : ℕ) → i < length l → (b : List ℕ) (n m : ℕ) → n ≤ length b
-    → m ≡ n + length (f (get_or l i d)) → take m (paste b n (f (get_or l i d))) ++ joined f (drop (i + 1) l) ≡ take n b ++ joined f (drop i l)
-copied_on f d l i h b n m k e =
-    let w : List ℕ = f (get_or l i d) in
-    let j : joined f (drop i l) ≡ w ++ joined f (drop (i + 1) l) = rw add-one (ap (joined f) (drop-cons l i d h)) in
-    let c : length (take n b ++ w) ≡ m = omega (arith, length-append (take n b) w, length-take-le n b k) in
-    ap (λ (r : List ℕ). r ++ joined f (drop (i + 1) l)) (take_at (take n b ++ w) (drop (n + length w) b) m c)
-    ∙ append_assoc (take n b) w (joined f (drop (i + 1) l))
-    ∙ ap (λ (r : List ℕ). take n b ++ r) (sym j)
 
 -- ---- one more, one less
 
