@@ -13,7 +13,9 @@ ghost use Rattle.call_answering.specs.Judging.{RightlyJudged, Sent};
 ghost use Rattle.table_image.specs.Lent.{LentAt, Loaded};
 
 use call_outcomes::Deed;
-use paper::{Carrier, ConnectResponse, DisconnectRequest, Request, Rule, Service, StateRow, Stream, Token};
+use paper::{
+    Carrier, ConnectResponse, DisconnectRequest, Request, Rule, Service, StateRow, Stream, Token,
+};
 
 // ---- steps 3 to 7 of the order of errors, of stream i, which stands as s
 

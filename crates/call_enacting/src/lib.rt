@@ -20,7 +20,10 @@ ghost use Rattle.call_enacting.specs.Concluding.{Concludes, Writes, WroteBeside,
 
 use call_outcomes::{Deed, Refusal, Served};
 use octets::BLOCK_SIZE;
-use paper::{ADDRESS_SIZE, BODY_SIZE, Effect, Form, HEAD_SIZE, LineOrder, MAC_SIZE, MESSAGE_SIZE, MOST_TAIL, Reply, START_SIZE};
+use paper::{
+    ADDRESS_SIZE, BODY_SIZE, Effect, Form, HEAD_SIZE, LineOrder, MAC_SIZE, MESSAGE_SIZE, MOST_TAIL,
+    Reply, START_SIZE,
+};
 
 // Where the M of a pair has its length and data.
 const DATA_PLACE: usize = MESSAGE_SIZE + START_SIZE;

@@ -86,11 +86,9 @@ fn put_indications(img: &[u8], room: &mut [u8], r: &[u8], f: Frame, block: &[u8]
     requires { Shows r.now f block.now img.now room.old }
     ensures { WroteMost most_shown (all_bytes (indications r.now f (shown_below state_rows (table_of img.now) f stream_total))) 0 result room.old room.new }
 {
-    let mut n: usize = 0;
-    let mut i: usize = 0;
-    while i < STREAM_TOTAL {
+    let mut n = 0;
+    for i in 0..STREAM_TOTAL {
         n += put_if_shown(img, &mut room[n..], i, r, f, block);
-        i += 1;
     }
     n
 }

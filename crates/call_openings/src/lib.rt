@@ -56,15 +56,13 @@ fn put_drops(img: &[u8], room: &mut [u8], i: u8) -> usize
 {
     let at = i as usize;
     let count = table_image::count_at(img, at) as usize;
-    let mut k: usize = 0;
-    while k < count {
+    for k in 0..count {
         let c = table_numbers::number_at(img, at, k);
         wire_replies::put_order(
             &mut room[k * DISCONNECT_SIZE..],
             i,
             LineOrder::Disconnect(c, 0),
         );
-        k += 1;
     }
     count * DISCONNECT_SIZE
 }

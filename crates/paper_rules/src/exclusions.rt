@@ -56,30 +56,21 @@ fn is_of(which: Which, n: u32) -> bool
     }
 }
 
+#[tactic(auto, unfolding(paper::specs::Exclusions::excludes))]
 fn excludes(x: Exclusion, n: u32) -> bool
     ensures { result ≡ excludes x n }
 {
-    if n < x.first {
-        return false;
-    }
-    if x.last < n {
-        return false;
-    }
-    let which = x.which;
-    is_of(which, n)
+    x.first <= n && n <= x.last && is_of(x.which, n)
 }
 
 // The first that holds.
 fn excluded_in(l: [Exclusion; EXCLUSION_TOTAL], n: u32) -> Option<Exclusion>
     ensures { result ≡ excluded_in l n }
 {
-    let mut k = 0;
-    while k < EXCLUSION_TOTAL {
-        let x = l[k];
-        if excludes(x, n) {
-            return Some(x);
+    for x in &l {
+        if excludes(*x, n) {
+            return Some(*x);
         }
-        k += 1;
     }
     None
 }

@@ -6,7 +6,10 @@ ghost use Rattle.paper.specs.ErrorOrder.{judge_attach, judge_listening, judge_bi
 ghost use Rattle.paper_rules.specs.Keepable.{Keepable};
 
 use crate::saps::{grant_of, is_sap_or_type, is_type};
-use paper::{ADDRESS_SIZE, BindRequest, Carrier, ConnectRequest, ConnectResponse, Correlation, DisconnectRequest, PpaNumber, Request, Rule, Service, Stream};
+use paper::{
+    ADDRESS_SIZE, BindRequest, Carrier, ConnectRequest, ConnectResponse, Correlation,
+    DisconnectRequest, PpaNumber, Request, Rule, Service, Stream,
+};
 
 // 2. No state row. Of a datagram it is a rule of its own.
 #[tactic(auto, unfolding(paper::specs::ErrorOrder::without_row))]

@@ -14,54 +14,11 @@ use paper::{
     MESSAGE_SIZE, MOST_ADDRESS, MOST_DATA, PAIR_SIZE, PpaNumber,
 };
 
-// The letters.
-fn kind_of(b: u8) -> Kind
-    ensures { result ≡ kind_of b }
-{
-    match b {
-        b'G' => Kind::AddPpa,
-        b'O' => Kind::Open,
-        b'X' => Kind::Close,
-        b'P' => Kind::Message,
-        b'C' => Kind::Message,
-        b'I' => Kind::CallArrives,
-        b'A' => Kind::PeerAccepted,
-        b'D' => Kind::PeerGone,
-        b'W' => Kind::CallWithdrawn,
-        b'R' => Kind::PeerReset,
-        b'S' => Kind::ResetConfirmed,
-        b'M' => Kind::Data,
-        b'f' => Kind::Frame,
-        _ => Kind::Unknown,
-    }
-}
-
-// The kind's byte and the body.
-fn size_of(k: Kind) -> usize
-    ensures { result ≡ size_of k }
-{
-    match k {
-        Kind::AddPpa => 1 + 4 + MAC_SIZE,
-        Kind::Open => 1,
-        Kind::Close => 1 + 1,
-        Kind::Message => MESSAGE_SIZE,
-        Kind::CallArrives => 1 + 4 + ADDRESS_SIZE + ADDRESS_SIZE,
-        Kind::PeerAccepted => 1 + 1 + ADDRESS_SIZE,
-        Kind::PeerGone => 1 + 1 + 4,
-        Kind::CallWithdrawn => 1 + 1 + 4 + 4,
-        Kind::PeerReset => 1 + 1 + 4,
-        Kind::ResetConfirmed => 1 + 1,
-        Kind::Data => DATA_SIZE,
-        Kind::Frame => 1 + 4 + 1 + MOST_ADDRESS + MOST_ADDRESS + 1 + MOST_DATA,
-        Kind::Unknown => 0,
-    }
-}
-
 // The body is cut.
 fn is_cut(k: Kind, r: &[u8]) -> bool
     ensures { result ≡ ltb (length r.now) (size_of k) }
 {
-    r.len() < size_of(k)
+    r.len() < k.size()
 }
 
 // Right behind each message of code 0x07 with L 4 to 96 an M stands. (Other messages leave at the code.)
@@ -108,14 +65,14 @@ fn is_pair(r: &[u8]) -> bool
 pub fn record_size(r: &[u8]) -> usize
     ensures { result ≡ record_size r.now }
 {
-    let k = kind_of(octets::byte_at(r, 0));
+    let k = Kind::from(octets::byte_at(r, 0));
     if is_cut(k, r) {
         return 0;
     }
     if is_pair(r) {
         return PAIR_SIZE;
     }
-    size_of(k)
+    k.size()
 }
 
 // A byte of a field past its length is not zero. Past a length over the field's size there are none.
@@ -233,7 +190,7 @@ fn input_as(k: Kind, r: &[u8]) -> Input
 pub fn input_of(r: &[u8]) -> Input
     ensures { result ≡ input_of r.now }
 {
-    let k = kind_of(octets::byte_at(r, 0));
+    let k = Kind::from(octets::byte_at(r, 0));
     if is_cut(k, r) {
         return Input::Unreadable;
     }

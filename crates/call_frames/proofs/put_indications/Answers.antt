@@ -15,7 +15,7 @@ use Rattle.call_frames.proofs.Laws.{shown_append}
 use Rattle.call_frames.proofs.put_indications.Goals as goal
 
 pub loop-i-init : goal.loop-i-init
-loop-i-init c = record { near = omega arith; few = omega arith; long = refl; wrote = record { ends = refl; stands = refl } }
+loop-i-init c = record { few = omega arith; long = refl; wrote = record { ends = refl; stands = refl } }
 
 pub loop-i-preserved : goal.loop-i-preserved
 loop-i-preserved c =
@@ -30,7 +30,6 @@ loop-i-preserved c =
     let new : List ℕ = all_bytes (indications r f (if_shown t f i)) in
     let w = c.put_if_shown-n.ensures in
     record {
-      near = omega arith;
       few = omega (arith, inv.few, w.few);
       long = search rules;
       wrote =
@@ -42,6 +41,6 @@ loop-i-preserved c =
 pub returns : goal.returns
 returns c =
     let a = c.args in
-    let all : c.loop-i.i ≡ stream_total = omega (arith, c.loop-i.invariant.near, c.loop-i-test.false) in
+    let all : c.loop-i.i ≡ stream_total = omega (arith, c.loop-i.auto.i-end, c.loop-i-test.false) in
     wrote-same (ap (λ (k : ℕ). all_bytes (indications a.r.now a.f (shown_below state_rows (table_of a.img.now) a.f k))) all)
     (wrote-most (omega (arith, c.loop-i.invariant.few, all)) c.loop-i.invariant.wrote)

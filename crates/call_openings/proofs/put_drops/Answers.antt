@@ -20,7 +20,7 @@ use Rattle.call_openings.proofs.put_drops.Goals as goal
 
 pub loop-k-init : goal.loop-k-init
 loop-k-init c =
-    (omega arith, omega (arith, c.count_at-count.ensures, c.requires.at.lent.shaped.eight c.args.i), refl, refl)
+    (omega (arith, c.count_at-count.ensures, c.requires.at.lent.shaped.eight c.args.i), refl, refl)
 
 pub loop-k-preserved : goal.loop-k-preserved
 loop-k-preserved c =
@@ -31,10 +31,9 @@ loop-k-preserved c =
     let old : List ℕ = all_bytes (map (goodbye a.i) (take c.loop-k.k w)) in
     let size : length old ≡ c.loop-k.k * disconnect_size =
     omega (arith, goodbyes-long a.i (take c.loop-k.k w), length-take-le c.loop-k.k w (omega (arith, count.ensures))) in (
-      omega arith,
-      c.loop-k.invariant.1,
+      c.loop-k.invariant.0,
       search rules,
-      over-next old (bytes_of (order a.i (line_order.Disconnect call.result 0) [])) a.room.now (c.loop-k.k * disconnect_size) c.loop-k.invariant.3 size
+      over-next old (bytes_of (order a.i (line_order.Disconnect call.result 0) [])) a.room.now (c.loop-k.k * disconnect_size) c.loop-k.invariant.2 size
           (wrote-over _ (wrote_of c.put_order.ensures))
           ∙ ap (λ (b : List ℕ). over b a.room.now) (goodbyes-next a.i c.loop-k.k w call.result (omega (arith, count.ensures)) call.ensures),
     )
@@ -47,4 +46,4 @@ returns c =
     let bytes : List ℕ → List ℕ = λ v. all_bytes (map (goodbye a.i) v) in
     let all = take_all c.loop-k.k w (omega (arith, count.ensures)) in
     wrote-most (omega arith)
-    (over-wrote (bytes w) (omega (arith, goodbyes-long a.i w, count.ensures)) (c.loop-k.invariant.3 ∙ ap (λ (v : List ℕ). over (bytes v) a.room.now) all))
+    (over-wrote (bytes w) (omega (arith, goodbyes-long a.i w, count.ensures)) (c.loop-k.invariant.2 ∙ ap (λ (v : List ℕ). over (bytes v) a.room.now) all))

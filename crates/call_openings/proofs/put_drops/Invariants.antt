@@ -1,5 +1,5 @@
 -- After k turns the goodbyes of the k oldest stand at the room's start.
-use Prim.Native.Nat.{◌-◌, ◌≤◌}
+use Prim.Native.Nat.{◌≤◌}
 use mathlib.Core.Path.{◌≡◌}
 use mathlib.Core.List.{map}
 use lib.ListN.{length, take}
@@ -12,7 +12,4 @@ use Rattle.paper.specs.Saps.{most_open}
 use Rattle.call_openings.proofs.put_drops.Given as goal
 
 abbrev pub invariant-loop-k : goal.invariant-loop-k
-invariant-loop-k l = (l.k ≤ l.count) × (l.count ≤ most_open) × (length l.room ≡ length l.initial.room) × (l.room ≡ over (all_bytes (map (goodbye l.i) (take l.k (waiting (table_of l.img) l.i)))) l.initial.room)
-
-abbrev pub decreases-loop-k : goal.decreases-loop-k
-decreases-loop-k l = l.count - l.k
+invariant-loop-k l = (l.count ≤ most_open) × (length l.room ≡ length l.initial.room) × (l.room ≡ over (all_bytes (map (goodbye l.i) (take l.k (waiting (table_of l.img) l.i)))) l.initial.room)

@@ -46,7 +46,7 @@ read_whole r h =
 pub returns-then-is_cut : goal.returns-then-is_cut
 unfolding input_of record_size ◌⇒◌∣◌
 returns-then-is_cut c =
-    simp (← c.byte_at.ensures, ← c.kind_of-k.ensures, ← c.is_cut.ensures, c.if-is_cut.true)
+    simp (← c.byte_at.ensures, ← c.from-k.ensures, ← c.is_cut.ensures, c.if-is_cut.true)
 
 pub input_as-requires : goal.input_as-requires
 input_as-requires c = ltb-false _ _ (sym c.is_cut.ensures ∙ c.if-is_cut.false)
@@ -54,5 +54,5 @@ input_as-requires c = ltb-false _ _ (sym c.is_cut.ensures ∙ c.if-is_cut.false)
 pub returns : goal.returns
 returns c =
     let r = c.args.r.now in
-    let k : c.kind_of-k.result ≡ kind_of (get_or r 0 0) = rw (← c.byte_at.ensures) c.kind_of-k.ensures in
+    let k : c.from-k.result ≡ kind_of (get_or r 0 0) = rw (← c.byte_at.ensures) c.from-k.ensures in
     c.input_as.ensures ∙ rw k (sym (read_whole r (rw (← k) (ltb-false _ _ (sym c.is_cut.ensures ∙ c.if-is_cut.false)))))

@@ -2,4 +2,4 @@
 use Rattle.wire_records.proofs.is_cut.Goals as goal
 
 pub returns : goal.returns
-returns c = rw c.size_of.ensures
+returns c = rw c.size.ensures

@@ -8,18 +8,18 @@ use Rattle.wire_records.proofs.record_size.Goals as goal
 pub returns-then-is_cut : goal.returns-then-is_cut
 unfolding record_size ◌⇒◌∣◌
 returns-then-is_cut c =
-    simp (← c.byte_at.ensures, ← c.kind_of-k.ensures, ← c.is_cut.ensures, c.if-is_cut.true)
+    simp (← c.byte_at.ensures, ← c.from-k.ensures, ← c.is_cut.ensures, c.if-is_cut.true)
 
 pub is_pair-requires : goal.is_pair-requires
 is_pair-requires c =
-    rw (← c.byte_at.ensures, ← c.kind_of-k.ensures) (ltb-false _ _ (sym c.is_cut.ensures ∙ c.if-is_cut.false))
+    rw (← c.byte_at.ensures, ← c.from-k.ensures) (ltb-false _ _ (sym c.is_cut.ensures ∙ c.if-is_cut.false))
 
 pub returns-then-is_pair : goal.returns-then-is_pair
 unfolding record_size ◌⇒◌∣◌
 returns-then-is_pair c =
     simp (
       ← c.byte_at.ensures,
-      ← c.kind_of-k.ensures,
+      ← c.from-k.ensures,
       ← c.is_cut.ensures,
       c.if-is_cut.false,
       ← c.is_pair.ensures,
@@ -31,9 +31,9 @@ unfolding record_size ◌⇒◌∣◌
 returns c =
     simp (
       ← c.byte_at.ensures,
-      ← c.kind_of-k.ensures,
+      ← c.from-k.ensures,
       ← c.is_cut.ensures,
       c.if-is_cut.false,
       ← c.is_pair.ensures,
       c.if-is_pair.false,
-    ) c.size_of.ensures
+    ) c.size.ensures

@@ -23,23 +23,20 @@ past = record { grounds = OddSap; which = Odd; first = 0; last = 0; place = Bind
 pub returns-then-excludes : goal.returns-then-excludes
 returns-then-excludes c =
     let a = c.args in
-    let k = c.loop-k.k in
+    let k = c.loop-x.x-index in
     let held : excludes (get_or a.l k past) a.n ≡ true = sym c.excludes.ensures ∙ c.if-excludes.true in
-    sym (c.loop-k.invariant.left ∙ excluded_from past a.l k a.n (search rules) ∙ hold _ _ _ held)
+    sym (c.loop-x.invariant ∙ excluded_from past a.l k a.n (search rules) ∙ hold _ _ _ held)
 
-pub loop-k-preserved : goal.loop-k-preserved
-loop-k-preserved c =
+pub loop-x-preserved : goal.loop-x-preserved
+loop-x-preserved c =
     let a = c.args in
-    let k = c.loop-k.k in
+    let k = c.loop-x.x-index in
     let failed : excludes (get_or a.l k past) a.n ≡ false = sym c.excludes.ensures ∙ c.if-excludes.false in
-    record {
-      inside = omega arith;
-      left = c.loop-k.invariant.left ∙ excluded_from past a.l k a.n (search rules) ∙ skip _ _ _ failed ∙ rw (add-one k);
-    }
+    c.loop-x.invariant ∙ excluded_from past a.l k a.n (search rules) ∙ skip _ _ _ failed ∙ rw (add-one k)
 
 pub returns : goal.returns
 returns c =
     let a = c.args in
-    let k = c.loop-k.k in
-    let end : length a.l ≤ k = omega (arith, c.loop-k.invariant.inside) in
-    sym (c.loop-k.invariant.left ∙ ap (λ (l : List Exclusion). excluded_in l a.n) (drop_of_length-le a.l {i = k} end))
+    let k = c.loop-x.x-index in
+    let end : length a.l ≤ k = search rules in
+    sym (c.loop-x.invariant ∙ ap (λ (l : List Exclusion). excluded_in l a.n) (drop_of_length-le a.l {i = k} end))

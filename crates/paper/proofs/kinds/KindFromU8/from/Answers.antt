@@ -2,7 +2,7 @@
 use borrow.Author.Tests.{ne_eqb}
 use Rattle.ledger.specs.Choice.{◌⇒◌∣◌}
 use Rattle.paper.specs.RecordsIn.{kind_of}
-use Rattle.wire_records.proofs.kind_of.Goals as goal
+use Rattle.paper.proofs.kinds.KindFromU8.from.Goals as goal
 
 pub returns-in-71 : goal.returns-in-71
 unfolding kind_of ◌⇒◌∣◌
