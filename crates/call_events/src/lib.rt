@@ -90,7 +90,7 @@ fn named(img: &[u8], i: u8, event: Event) -> Result<Brought, Refusal>
     })
 }
 
-// In the record the called address comes first, its MAC before its SAP.
+// In the record the called address comes first, its MAC before its SAP. (One line, as of a frame, where it lies elsewhere.)
 fn is_called(img: &[u8], p: PpaNumber, r: &[u8]) -> bool
     requires { Lent img.now }
     ensures { result ≡ same_bytes (take mac_size (called_in r.now)) (mac_of (table_of img.now) p) }

@@ -148,6 +148,7 @@ fn remove(register: &mut [u64], i: usize, n: u32)
     close_up(register, c, i * PAGE_SIZE + PLACES_END - c);
 }
 
+// Which of a page's counts is meant. (No `From`: an end has no number but here.)
 fn count_of(e: End) -> usize
     ensures { Few end_total (count_of e) result }
 {

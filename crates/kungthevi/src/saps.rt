@@ -4,6 +4,7 @@ ghost use Rattle.paper.specs.Exclusions.{ground_number, place_number, telling_of
 
 use paper::{Exclusion, Ground, Place};
 
+// The numbers of the C interface, which kungthevi.h names.
 fn ground_number(ground: Ground) -> u8
     ensures { result ≡ ground_number ground }
 {

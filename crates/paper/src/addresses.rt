@@ -7,6 +7,7 @@ ghost use Rattle.paper.specs.Replies.{sap_length};
 
 use crate::{ADDRESS_SIZE, Form, MOST_ADDRESS};
 
+// (Methods, since a form comes of two numbers: `From` would not say which.)
 impl Form {
     // How many bytes an address of this form has.
     pub fn length(self) -> usize

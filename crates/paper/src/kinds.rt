@@ -55,6 +55,7 @@ impl Kind {
     }
 }
 
+// (Bytes, since a record out is looked at where it lies in the room: an enum of its letters would be asked for one size alone.)
 pub fn is_message(kind: u8) -> bool
     ensures { result ≡ is_message kind }
 {

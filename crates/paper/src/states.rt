@@ -5,6 +5,7 @@ ghost use Rattle.paper.specs.Base.{number_of, state_of, header_number, bound_sta
 
 use crate::State;
 
+// (Methods, since a state has two numbers: `From` would not say which.)
 impl State {
     // Its number in the manual's state table.
     pub fn number(self) -> u8

@@ -12,7 +12,7 @@ use paper::{Event, Request, StateRow, Stream};
 
 // ---- what comes to a stream
 
-// A request, by its code.
+// A request, by its code. (`From` would not say that a code is meant; so with the letter.)
 fn code_of(q: Request) -> u8
     ensures { result ≡ (request_asks q).cause }
 {
@@ -185,6 +185,7 @@ fn row_along(s: Stream, cause: u8, course: Course) -> Option<StateRow>
     }
 }
 
+// (It differs from `event_row` in each call that it makes: one function of both would take all three.)
 pub fn request_row(s: Stream, q: Request) -> Option<StateRow>
     ensures { result ≡ found state_rows s (request_asks q).cause }
 {

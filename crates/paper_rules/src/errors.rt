@@ -30,6 +30,7 @@ const NOAUTO: u32 = 0x16;
 
 const PENDING: u32 = 0x1b;
 
+// (The enum is `Rule`; its error is a number of the header that only ever goes into a message, and no `From` would say so much.)
 pub fn error_of(rule: Rule) -> u32
     ensures { result ≡ error_of rule }
 {

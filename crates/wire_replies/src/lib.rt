@@ -98,7 +98,7 @@ pub fn put_unitdata(room: &mut [u8], s: u8, at: u8, form: Form, address: &[u8]) 
     UNITDATA_SIZE
 }
 
-// M: stream; length and data as they were lent.
+// M: stream; length and data as they were lent. (As `put_connect` but for the letter; what both write is short enough to say twice.)
 pub fn put_data(room: &mut [u8], s: u8, body: &[u8]) -> usize
     requires { Carries body.now room.old }
     ensures { WroteMost data_size (bytes_of (datum s body.now)) 0 result room.old room.new }
