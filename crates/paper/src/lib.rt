@@ -2,6 +2,7 @@
 #![tactic(auto)]
 
 mod addresses;
+mod codes;
 mod kinds;
 mod states;
 

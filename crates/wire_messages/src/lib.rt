@@ -5,7 +5,7 @@ ghost use Rattle.std.specs.Prelude.{◌≡◌, ◌≤◌, length};
 ghost use Rattle.octets.specs.Runs.{part};
 ghost use Rattle.octets.specs.Blocks.{block_size};
 ghost use Rattle.paper.specs.Base.{address_size, length_of};
-ghost use Rattle.paper.specs.Messages.{code_in, other_code, primitive_of, sized, read_as, asked_by};
+ghost use Rattle.paper.specs.Messages.{code_in, sized, read_as, asked_by};
 ghost use Rattle.paper.specs.declared.Primitive.TheVariants as primitive;
 ghost use Rattle.wire_messages.specs.Whole.{Whole};
 
@@ -19,43 +19,6 @@ pub fn code_in(m: &[u8]) -> u32
     ensures { result ≡ code_in m.now }
 {
     octets::number_inside::<u32>(m, 0)
-}
-
-// The codes that are not in the paper's table: seven of them are known, but not supported.
-fn other_code(code: u32) -> Primitive
-    ensures { result ≡ other_code code }
-{
-    match code {
-        0x0a => Primitive::NotSupported,
-        0x15 => Primitive::NotSupported,
-        0x1b => Primitive::NotSupported,
-        0x1d => Primitive::NotSupported,
-        0x1e => Primitive::NotSupported,
-        0x1f => Primitive::NotSupported,
-        0x20 => Primitive::NotSupported,
-        _ => Primitive::NotServed,
-    }
-}
-
-// The codes of the paper's table.
-fn primitive_of(code: u32) -> Primitive
-    ensures { result ≡ primitive_of code }
-{
-    match code {
-        0x00 => Primitive::Info,
-        0x0b => Primitive::Attach,
-        0x0c => Primitive::Detach,
-        0x02 => Primitive::Unbind,
-        0x01 => Primitive::Bind,
-        0x0d => Primitive::Connect,
-        0x0f => Primitive::ConnectRes,
-        0x11 => Primitive::Token,
-        0x13 => Primitive::Disconnect,
-        0x17 => Primitive::Reset,
-        0x19 => Primitive::ResetRes,
-        0x07 => Primitive::Unitdata,
-        _ => other_code(code),
-    }
 }
 
 // A message under its size asks for nothing.
@@ -146,7 +109,7 @@ pub fn asked_by(m: &[u8]) -> Result<Request, Rule>
     requires { Whole m.now }
     ensures { result ≡ asked_by m.now }
 {
-    match primitive_of(code_in(m)) {
+    match Primitive::from(code_in(m)) {
         Primitive::Info => of_size(4, m, Request::Info),
         Primitive::Attach => attach_in(m),
         Primitive::Detach => of_size(4, m, Request::Detach),

@@ -2,7 +2,7 @@
 use borrow.Author.Tests.{ne_eqb}
 use Rattle.ledger.specs.Choice.{◌⇒◌∣◌}
 use Rattle.paper.specs.Messages.{other_code}
-use Rattle.wire_messages.proofs.other_code.Goals as goal
+use Rattle.paper.proofs.codes.other_code.Goals as goal
 
 pub returns-in-10 : goal.returns-in-10
 unfolding other_code ◌⇒◌∣◌

@@ -2,7 +2,7 @@
 use borrow.Author.Tests.{ne_eqb}
 use Rattle.ledger.specs.Choice.{◌⇒◌∣◌}
 use Rattle.paper.specs.Messages.{primitive_of}
-use Rattle.wire_messages.proofs.primitive_of.Goals as goal
+use Rattle.paper.proofs.codes.PrimitiveFromU32.from.Goals as goal
 
 pub returns-in-0 : goal.returns-in-0
 unfolding primitive_of ◌⇒◌∣◌
