@@ -1,13 +1,11 @@
--- What a request with a state row sees, what it comes to by that, and what is lent with a message.
-use Rattle.std.specs.Prelude.{ℕ, ◌≡◌, List, Some}
+-- What a request with a state row sees, and what it comes to by that.
+use Rattle.std.specs.Prelude.{ℕ, ◌≡◌, Some}
 use Rattle.paper.specs.Base.{Table}
 use Rattle.paper.specs.Sight.{request_asks, Sight, sight_by, carrier_at}
 use Rattle.paper.specs.ErrorOrder.{judge_request}
 use Rattle.paper.specs.declared.Request.{Request}
 use Rattle.paper.specs.declared.StateRow.{StateRow}
 use Rattle.call_answering.specs.declared.Judgement.{Judgement}
-use Rattle.table_image.specs.Lent.{LentAt}
-use Rattle.wire_messages.specs.Whole.{Whole}
 
 abbrev pub seen : Table → ℕ → StateRow → Request → Sight
 seen t i x q = sight_by t i (Some x) (request_asks q).question
@@ -19,8 +17,3 @@ pub record Judged (t : Table) (i : ℕ) (q : Request) (x : StateRow) (r : Judgem
 -- whichever row it has
 abbrev pub RightlyJudged : Table → ℕ → Request → Judgement → Type 0
 RightlyJudged t i q r = (x : StateRow) → Judged t i q x r
-
--- ---- a message of a stream
-pub record Sent (i : ℕ) (img m : List ℕ) : Type 0 where
-  pub at : LentAt i img
-  pub whole : Whole m

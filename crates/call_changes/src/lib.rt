@@ -8,6 +8,7 @@ ghost use Rattle.table_image.specs.Lent.{Lent, LentAt, NumberPlace};
 ghost use Rattle.call_changes.specs.Changing.{Changes};
 
 use paper::{Change, Correlation, STREAM_TOTAL, State, Stream};
+use table_image::LentTable;
 
 // A stream takes one more open indication, and the counter stands one past its number.
 fn take_indication(img: &mut [u8], i: u8, s: Stream, n: Correlation)
@@ -24,7 +25,7 @@ fn lose_indication(img: &mut [u8], i: u8, s: Stream, n: Correlation, last: State
     ensures { img.new ≡ image_of (changed (table_of img.old) i (Change.Loses s n last)) }
 {
     let at = i as usize;
-    if table_numbers::remaining(img, at, n) == 0 {
+    if table_numbers::remaining(LentTable { image: img }, at, n) == 0 {
         table_numbers::remove_number(img, at, paper_rules::settled(last, s), n);
         return;
     }
@@ -51,7 +52,7 @@ pub fn carry(img: &mut [u8], c: u8, carries: bool)
 {
     if carries && (c as usize) < STREAM_TOTAL {
         let at = c as usize;
-        let s = table_image::load_stream(img, at);
+        let s = LentTable { image: img }.load_stream(at);
         table_image::store_stream(img, at, paper_rules::settled(State::DataXfer, s));
     }
 }

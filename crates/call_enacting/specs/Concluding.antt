@@ -6,13 +6,11 @@ use Rattle.octets.specs.Writing.{Wrote}
 use Rattle.paper.specs.Base.{Slot, most_address, length_of}
 use Rattle.paper.specs.RecordsIn.{block_in, data_in}
 use Rattle.paper.specs.RecordsOut.{order, datum, all_bytes}
-use Rattle.paper.specs.Room.{room_size, Fits}
-use Rattle.paper.specs.declared.Effect.{Effect}
 use Rattle.paper.specs.declared.Form.{Form}
 use Rattle.paper.specs.declared.LineOrder.TheVariants as line_order
 use Rattle.table_image.specs.Layout.{table_of}
 use Rattle.call_outcomes.specs.Deciding.{Enactable}
-use Rattle.call_outcomes.specs.Rooms.{LentCall, LentRoom}
+use Rattle.call_outcomes.specs.Rooms.{LentCall}
 use Rattle.call_outcomes.specs.declared.Deed.{Deed}
 use Rattle.call_outcomes.specs.declared.Refusal.{Refusal}
 
@@ -20,11 +18,6 @@ use Rattle.call_outcomes.specs.declared.Refusal.{Refusal}
 pub record Concludes (d : Result Deed Refusal) (img room : List ℕ) : Type 0 where
   pub call : LentCall img room
   pub fits : Enactable (table_of img) d
-
--- an effect whose records fit the room
-pub record Writes (e : Effect) (i : ℕ) (img room : List ℕ) : Type 0 where
-  pub lent : LentRoom room_size i img room
-  pub fits : Fits e
 
 -- Bytes are written at the start of a room, no more than so many, whichever the stream's own slot is.
 pub record WroteBeside (most : ℕ) (bytes : Slot → List ℕ) (n : ℕ) (before after : List ℕ) : Type 0 where

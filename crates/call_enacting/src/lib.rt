@@ -1,22 +1,20 @@
 // What was decided, concluded: an effect's records are written to the lent room, then the lent table is changed.
 #![tactic(auto)]
 
-ghost use Rattle.std.specs.Prelude.{◌≡◌, ◌+◌, ◌≤◌, length, Some};
-ghost use Rattle.paper.specs.Base.{slot, mac_at};
+ghost use Rattle.std.specs.Prelude.{◌≡◌, ◌+◌, ◌<◌, ◌≤◌, length, Some};
+ghost use Rattle.paper.specs.Base.{stream_total, slot, mac_at};
 ghost use Rattle.paper.specs.RecordsOut.{up, bytes_of, unitdata_size, all_bytes};
 ghost use Rattle.paper.specs.Effects.{named_by, orders_in, behind_reply, ups_in, told};
 ghost use Rattle.table_image.specs.Layout.{table_of};
-ghost use Rattle.table_image.specs.Lent.{LentAt};
 ghost use Rattle.call_outcomes.specs.Leaving.{left, leaving};
 ghost use Rattle.call_outcomes.specs.Deciding.{outcome_of};
 ghost use Rattle.call_outcomes.specs.Answering.{call_number};
 ghost use Rattle.call_enacting.specs.Behind.{own_behind, behind_by};
 ghost use Rattle.paper.specs.RecordsIn.{message_size, data_size, block_in};
-ghost use Rattle.paper.specs.Room.{room_size, most_of_order, most_told, most_said};
+ghost use Rattle.paper.specs.Room.{room_size, Fits, most_of_order, most_told, most_said};
 ghost use Rattle.octets.specs.Writing.{WroteMost};
 ghost use Rattle.paper.specs.Replies.{most_tail};
-ghost use Rattle.call_outcomes.specs.Rooms.{LentRoom};
-ghost use Rattle.call_enacting.specs.Concluding.{Concludes, Writes, WroteBeside, datagram_bytes};
+ghost use Rattle.call_enacting.specs.Concluding.{Concludes, WroteBeside, datagram_bytes};
 
 use call_outcomes::{Deed, Refusal, Served};
 use octets::BLOCK_SIZE;
@@ -24,6 +22,7 @@ use paper::{
     ADDRESS_SIZE, BODY_SIZE, Effect, Form, HEAD_SIZE, LineOrder, MAC_SIZE, MESSAGE_SIZE, MOST_TAIL,
     Reply, START_SIZE,
 };
+use table_image::LentTable;
 
 // Where the M of a pair has its length and data.
 const DATA_PLACE: usize = MESSAGE_SIZE + START_SIZE;
@@ -92,26 +91,27 @@ fn put_orders(room: &mut [u8], i: u8, c: u8, r: &[u8], telling: Option<LineOrder
 }
 
 // The MAC of the PPA that a stream is attached to.
-fn mac_at(img: &[u8], i: u8) -> [u8; MAC_SIZE]
-    requires { LentAt i img.now }
-    ensures { result ≡ mac_at (table_of img.now) i }
+fn mac_at(table: LentTable, i: u8) -> [u8; MAC_SIZE]
+    requires { i < stream_total }
+    ensures { result ≡ mac_at (table_of table.entry.image.now) i }
 {
-    let p = table_image::attached_at(img, i as usize);
-    table_lookup::mac_of(img, p)
+    let p = table.attached_at(i as usize);
+    table_lookup::mac_of(table, p)
 }
 
 // The stream's own address, where the message up ends in it: behind the fields of INFO_ACK and BIND_ACK.
-fn put_own_address(img: &[u8], own: &mut [u8], i: u8, reply: Reply) -> usize
-    requires { LentRoom most_tail i img.now own.old }
-    ensures { WroteMost most_tail (own_behind (mac_at (table_of img.now) i) reply) 0 result own.old own.new }
+fn put_own_address(table: LentTable, own: &mut [u8], i: u8, reply: Reply) -> usize
+    requires within { i < stream_total }
+    requires roomy { most_tail ≤ length own.old }
+    ensures { WroteMost most_tail (own_behind (mac_at (table_of table.entry.image.now) i) reply) 0 result own.old own.new }
 {
     match reply {
         Reply::InfoAck(s) => {
-            let mac = mac_at(img, i);
+            let mac = mac_at(table, i);
             wire_replies::put_info_tail(own, s, mac)
         }
         Reply::BindAck(sap, _) => {
-            let mac = mac_at(img, i);
+            let mac = mac_at(table, i);
             wire_replies::put_address(own, mac, sap)
         }
         _ => 0,
@@ -131,38 +131,42 @@ fn behind<'a>(own: &'a [u8], r: &'a [u8], reply: Reply) -> &'a [u8]
 }
 
 // A message up.
-fn put_reply(img: &[u8], room: &mut [u8], i: u8, r: &[u8], reply: Reply) -> usize
-    requires { LentRoom message_size i img.now room.old }
-    ensures { WroteMost message_size (bytes_of (up i reply (behind_reply (mac_at (table_of img.now) i) r.now reply))) 0 result room.old room.new }
+fn put_reply(table: LentTable, room: &mut [u8], i: u8, r: &[u8], reply: Reply) -> usize
+    requires within { i < stream_total }
+    requires roomy { message_size ≤ length room.old }
+    ensures { WroteMost message_size (bytes_of (up i reply (behind_reply (mac_at (table_of table.entry.image.now) i) r.now reply))) 0 result room.old room.new }
 {
     let mut own = [0u8; MOST_TAIL];
-    let size = put_own_address(img, &mut own, i, reply);
+    let size = put_own_address(table, &mut own, i, reply);
     let tail = behind(&own[0..size], r, reply);
     wire_replies::put_up(room, i, reply, tail)
 }
 
 // What the stream's user is told.
-fn put_replies(img: &[u8], room: &mut [u8], i: u8, r: &[u8], saying: Option<Reply>) -> usize
-    requires { LentRoom (most_said saying) i img.now room.old }
-    ensures { WroteMost (most_said saying) (all_bytes (ups_in i (mac_at (table_of img.now) i) r.now saying)) 0 result room.old room.new }
+fn put_replies(table: LentTable, room: &mut [u8], i: u8, r: &[u8], saying: Option<Reply>) -> usize
+    requires within { i < stream_total }
+    requires roomy { most_said saying ≤ length room.old }
+    ensures { WroteMost (most_said saying) (all_bytes (ups_in i (mac_at (table_of table.entry.image.now) i) r.now saying)) 0 result room.old room.new }
 {
     match saying {
         None => 0,
-        Some(reply) => put_reply(img, room, i, r, reply),
+        Some(reply) => put_reply(table, room, i, r, reply),
     }
 }
 
 // The order first, then F, then the message up, each right behind the one before.
-fn put_records(img: &[u8], room: &mut [u8], i: u8, c: u8, r: &[u8], e: Effect) -> usize
-    requires { Writes e i img.now room.old }
+fn put_records(table: LentTable, room: &mut [u8], i: u8, c: u8, r: &[u8], e: Effect) -> usize
+    requires within { i < stream_total }
+    requires roomy { room_size ≤ length room.old }
+    requires fits { Fits e }
     ensures { WroteMost room_size
-        (all_bytes (told i c (slot (table_of img.now) i) (mac_at (table_of img.now) i) r.now e)) 0 result room.old room.new }
+        (all_bytes (told i c (slot (table_of table.entry.image.now) i) (mac_at (table_of table.entry.image.now) i) r.now e)) 0 result room.old room.new }
 {
     let telling = e.order;
     let saying = e.up;
     let a = put_orders(room, i, c, r, telling);
     let b = a + wire_replies::put_flush_if(&mut room[a..], e.flush, i);
-    b + put_replies(img, &mut room[b..], i, r, saying)
+    b + put_replies(table, &mut room[b..], i, r, saying)
 }
 
 // ---- the call
@@ -176,7 +180,7 @@ fn enact(img: &mut [u8], room: &mut [u8], r: &[u8], d: Deed) -> u16
     let c = d.carrier;
     let change = d.effect.change;
     let carries = d.effect.carries;
-    let n = put_records(img, room, i, c, r, d.effect);
+    let n = put_records(LentTable { image: img }, room, i, c, r, d.effect);
     call_changes::change_stream(img, i, change);
     call_changes::carry(img, c, carries);
     n as u16

@@ -6,7 +6,6 @@ use Rattle.paper.specs.Room.{room_for}
 use Rattle.paper.specs.declared.Input.{Input}
 use Rattle.paper.specs.declared.Input.TheVariants as input
 use Rattle.table_image.specs.Layout.{sound_image}
-use Rattle.table_image.specs.Lent.{Lent}
 
 -- What comes to one stream, from its user or from the line, and what could not be read: not G, O and X, which touch PPAs and
 -- openings, nor f, which comes to many.
@@ -31,11 +30,6 @@ is_to_stream (input.Frame f) = false
 pub record Holds (l : ℕ) (r : List ℕ) : Type 0 where
   pub whole : message_size ≤ length r
   pub short : l ≤ block_size
-
--- the record of a message, whatever its L
-pub record Measured (img r : List ℕ) : Type 0 where
-  pub lent : Lent img
-  pub whole : message_size ≤ length r
 
 -- a record that was read as q, and comes to a stream of a sound table
 pub record ToStream (q : Input) (img r : List ℕ) : Type 0 where

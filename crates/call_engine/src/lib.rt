@@ -1,8 +1,8 @@
 // The call: it reads one record, decides by value what that comes to, and concludes it.
 #![tactic(auto)]
 
-ghost use Rattle.std.specs.Prelude.{◌≡◌, true};
-ghost use Rattle.paper.specs.RecordsIn.{message_in};
+ghost use Rattle.std.specs.Prelude.{◌≡◌, ◌≤◌, true, length};
+ghost use Rattle.paper.specs.RecordsIn.{message_size, message_in};
 ghost use Rattle.paper.specs.Room.{room_for};
 ghost use Rattle.paper.specs.StateRows.{state_rows};
 ghost use Rattle.paper.specs.Step.{of_open, message, serve_by, is_readable};
@@ -10,11 +10,12 @@ ghost use Rattle.table_image.specs.Layout.{table_of, sound_image};
 ghost use Rattle.call_outcomes.specs.Leaving.{left, leaving, call_of};
 ghost use Rattle.call_outcomes.specs.Answering.{call_number};
 ghost use Rattle.call_outcomes.specs.Deciding.{Rightly};
-ghost use Rattle.call_engine.specs.Reading.{Holds, Measured, ToStream, Servable};
+ghost use Rattle.call_engine.specs.Reading.{Holds, ToStream, Servable};
 
 use call_outcomes::{Deed, Refusal, Served};
 use octets::BLOCK_SIZE;
 use paper::{FRAME_ROOM_SIZE, HEAD_SIZE, Input, MAC_SIZE, MOST_DATA, ROOM_SIZE};
+use table_image::LentTable;
 
 // ---- what comes to a stream
 
@@ -28,11 +29,11 @@ fn message_in<'a>(r: &'a [u8], l: u8) -> &'a [u8]
 }
 
 // A message of stream i, with n bytes of data: refusals 2, 5 and 4, then its answer.
-fn message_to(img: &[u8], i: u8, l: u8, n: u8, r: &[u8]) -> Result<Deed, Refusal>
-    requires { Measured img.now r.now }
-    ensures { Rightly (table_of img.now) r.now result (of_open (table_of img.now) i (message state_rows (table_of img.now) i l n r.now)) }
+fn message_to(table: LentTable, i: u8, l: u8, n: u8, r: &[u8]) -> Result<Deed, Refusal>
+    requires { message_size ≤ length r.now }
+    ensures { Rightly (table_of table.entry.image.now) r.now result (of_open (table_of table.entry.image.now) i (message state_rows (table_of table.entry.image.now) i l n r.now)) }
 {
-    if !table_image::is_open(img, i as usize) {
+    if !table.is_open(i as usize) {
         return Err(Refusal::NotOpen);
     }
     if BLOCK_SIZE < l as usize {
@@ -44,17 +45,17 @@ fn message_to(img: &[u8], i: u8, l: u8, n: u8, r: &[u8]) -> Result<Deed, Refusal
     if l < 4 {
         return Err(Refusal::NoCode);
     }
-    Ok(call_answering::answer_message(img, i, message_in(r, l)))
+    Ok(call_answering::answer_message(table, i, message_in(r, l)))
 }
 
 // Any message, any event.
-fn decide_coming(img: &[u8], r: &[u8], q: Input) -> Result<Deed, Refusal>
-    requires { ToStream q img.now r.now }
-    ensures { Rightly (table_of img.now) r.now result (serve_by state_rows (table_of img.now) r.now q) }
+fn decide_coming(table: LentTable, r: &[u8], q: Input) -> Result<Deed, Refusal>
+    requires { ToStream q table.image.now r.now }
+    ensures { Rightly (table_of table.entry.image.now) r.now result (serve_by state_rows (table_of table.entry.image.now) r.now q) }
 {
     match q {
-        Input::Message(i, l, n) => message_to(img, i, l, n, r),
-        _ => call_events::occur(img, r, q),
+        Input::Message(i, l, n) => message_to(table, i, l, n, r),
+        _ => call_events::occur(table, r, q),
     }
 }
 
@@ -69,9 +70,9 @@ fn serve(img: &mut [u8], room: &mut [u8], r: &[u8], q: Input) -> Result<Served, 
         Input::AddPpa(p) => call_openings::add_ppa(img, p, octets::part_at(r, 5, MAC_SIZE)),
         Input::Open => call_openings::open_stream(img),
         Input::Close(i) => call_openings::close_stream(img, room, i),
-        Input::Frame(f) => call_frames::show(img, room, r, f),
+        Input::Frame(f) => call_frames::show(LentTable { image: img }, room, r, f),
         _ => {
-            let d = decide_coming(img, r, q);
+            let d = decide_coming(LentTable { image: img }, r, q);
             call_enacting::conclude(img, room, r, d)
         }
     }

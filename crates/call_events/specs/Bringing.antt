@@ -1,6 +1,6 @@
 -- What a record of the line brings, in code.
-use Rattle.std.specs.Prelude.{ℕ, ◌<◌, ◌≤◌, ◌≡◌, Bool, true, false, List, Result, Ok, Err, IfOk}
-use Rattle.paper.specs.Base.{Table, stream_total, stream}
+use Rattle.std.specs.Prelude.{ℕ, ◌<◌, ◌≡◌, Bool, true, false, List, Result, Ok, Err, IfOk}
+use Rattle.paper.specs.Base.{Table, stream_total}
 use Rattle.paper.specs.Refusals.{Outcome, refused}
 use Rattle.paper.specs.StateRows.{state_rows}
 use Rattle.paper.specs.Sight.{brings}
@@ -10,9 +10,6 @@ use Rattle.paper.specs.declared.Input.TheVariants as input
 use Rattle.call_outcomes.specs.Answering.{refusal_number}
 use Rattle.call_outcomes.specs.declared.Refusal.{Refusal}
 use Rattle.call_events.specs.declared.Brought.{Brought}
-use Rattle.paper.specs.Saps.{most_open}
-use Rattle.table_image.specs.Lent.{Lent, LentAt}
-use Rattle.table_image.specs.Layout.{table_of}
 
 -- what it comes to, where r is the record
 abbrev pub brought_by : Table → List ℕ → Result Brought Refusal → Outcome
@@ -42,21 +39,3 @@ is_of_line (input.CallWithdrawn i n reason) = true
 is_of_line (input.PeerReset i reason) = true
 is_of_line (input.ResetConfirmed i) = true
 is_of_line (input.Frame f) = false
-
--- ---- what is asked of the table
-
--- a stream to which an event may come, with at most 8 granted
-pub record Comes (i : ℕ) (img : List ℕ) : Type 0 where
-  pub at : LentAt i img
-  pub granted : (stream (table_of img) i).granted ≤ most_open
-
--- a record of the line, or what could not be read
-pub record OfLine (q : Input) (img : List ℕ) : Type 0 where
-  pub lent : Lent img
-  pub line : is_of_line q ≡ true
-
--- and every stream with at most 8 granted
-pub record Occurs (q : Input) (img : List ℕ) : Type 0 where
-  pub lent : Lent img
-  pub granted : (i : ℕ) → (stream (table_of img) i).granted ≤ most_open
-  pub line : is_of_line q ≡ true

@@ -1,64 +1,67 @@
 // What the line brings.
 #![tactic(auto)]
 
-ghost use Rattle.std.specs.Prelude.{◌≡◌, List, ℕ, take};
+ghost use Rattle.std.specs.Prelude.{◌<◌, ◌≤◌, ◌≡◌, true, List, ℕ, take};
 ghost use Rattle.octets.specs.Runs.{same_bytes};
-ghost use Rattle.paper.specs.Base.{slot, mac_of, mac_size};
+ghost use Rattle.paper.specs.Base.{stream_total, slot, stream, mac_of, mac_size};
 ghost use Rattle.paper.specs.RecordsIn.{called_in};
 ghost use Rattle.paper.specs.Refusals.{unexpected};
 ghost use Rattle.call_outcomes.specs.Answering.{refusal_number};
+ghost use Rattle.paper.specs.Saps.{most_open};
 ghost use Rattle.paper.specs.StateRows.{state_rows};
 ghost use Rattle.paper.specs.Sight.{brings};
 ghost use Rattle.paper.specs.Decide.{is_due};
 ghost use Rattle.paper.specs.Step.{comes, of_open, arrives, serve_by};
 ghost use Rattle.table_image.specs.Layout.{table_of};
-ghost use Rattle.table_image.specs.Lent.{Lent, Loaded};
+ghost use Rattle.table_image.specs.Lent.{Loaded};
 ghost use Rattle.call_outcomes.specs.Deciding.{Rightly};
 ghost use Rattle.call_events.specs.DueRow.{due_row};
-ghost use Rattle.call_events.specs.Bringing.{RightlyBrought, Comes, OfLine, Occurs};
+ghost use Rattle.call_events.specs.Bringing.{RightlyBrought, is_of_line};
 
 use call_outcomes::{Deed, Refusal};
 use paper::{Correlation, Event, Input, MAC_SIZE, PpaNumber, STREAM_TOTAL, StateRow, Stream};
+use table_image::LentTable;
 
 // ---- the row by which an event may come
 
 // I: the listener has less than its granted count open. W: the number is open on that stream.
-fn is_due(img: &[u8], i: u8, s: Stream, event: Event) -> bool
-    requires { Loaded s i img.now }
-    ensures { result ≡ is_due (slot (table_of img.now) i) event }
+fn is_due(table: LentTable, i: u8, s: Stream, event: Event) -> bool
+    requires { Loaded s i table.image.now }
+    ensures { result ≡ is_due (slot (table_of table.entry.image.now) i) event }
 {
     match event {
         Event::Arrives(_) => {
-            let count = table_image::count_at(img, i as usize);
+            let count = table.count_at(i as usize);
             count < s.granted
         }
         Event::Accepted => true,
         Event::Gone(_) => true,
-        Event::Withdrawn(n, _) => table_numbers::is_waiting(img, i as usize, n),
+        Event::Withdrawn(n, _) => table_numbers::is_waiting(table, i as usize, n),
         Event::Resets(_) => true,
         Event::Confirmed => true,
     }
 }
 
 // The stream's row for an event; none where it is not due. Stream i stands as s.
-fn row_of(img: &[u8], i: u8, s: Stream, event: Event) -> Option<StateRow>
-    requires { Loaded s i img.now }
-    ensures { result ≡ due_row (table_of img.now) i event }
+fn row_of(table: LentTable, i: u8, s: Stream, event: Event) -> Option<StateRow>
+    requires { Loaded s i table.image.now }
+    ensures { result ≡ due_row (table_of table.entry.image.now) i event }
 {
-    if !is_due(img, i, s, event) {
+    if !is_due(table, i, s, event) {
         return None;
     }
     paper_rows::event_row(s, event)
 }
 
 // An event of stream i: what its row says, or the refusal.
-fn come(img: &[u8], i: u8, refusal: Refusal, event: Event) -> Result<Deed, Refusal>
-    requires { Comes i img.now }
-    ensures { (r : List ℕ) → Rightly (table_of img.now) r result
-        (comes state_rows (table_of img.now) i r (brings (refusal_number refusal) event)) }
+fn come(table: LentTable, i: u8, refusal: Refusal, event: Event) -> Result<Deed, Refusal>
+    requires within { i < stream_total }
+    requires granted { (stream (table_of table.image.now) i).granted ≤ most_open }
+    ensures { (r : List ℕ) → Rightly (table_of table.entry.image.now) r result
+        (comes state_rows (table_of table.entry.image.now) i r (brings (refusal_number refusal) event)) }
 {
-    let s = table_image::load_stream(img, i as usize);
-    let Some(x) = row_of(img, i, s, event) else {
+    let s = table.load_stream(i as usize);
+    let Some(x) = row_of(table, i, s, event) else {
         return Err(refusal);
     };
     Ok(Deed::alone(i, paper_effects::event_effect(x, s, event)))
@@ -75,12 +78,11 @@ struct Brought {
 }
 
 // A, D, W, R and S name their stream: 2 unless it is open, then 6 where there is no row.
-fn named(img: &[u8], i: u8, event: Event) -> Result<Brought, Refusal>
-    requires { Lent img.now }
-    ensures { (r : List ℕ) → RightlyBrought (table_of img.now) r result
-        (of_open (table_of img.now) i (comes state_rows (table_of img.now) i r (brings unexpected event))) }
+fn named(table: LentTable, i: u8, event: Event) -> Result<Brought, Refusal>
+    ensures { (r : List ℕ) → RightlyBrought (table_of table.entry.image.now) r result
+        (of_open (table_of table.entry.image.now) i (comes state_rows (table_of table.entry.image.now) i r (brings unexpected event))) }
 {
-    if !table_image::is_open(img, i as usize) {
+    if !table.is_open(i as usize) {
         return Err(Refusal::NotOpen);
     }
     Ok(Brought {
@@ -91,30 +93,28 @@ fn named(img: &[u8], i: u8, event: Event) -> Result<Brought, Refusal>
 }
 
 // In the record the called address comes first, its MAC before its SAP. (One line, as of a frame, where it lies elsewhere.)
-fn is_called(img: &[u8], p: PpaNumber, r: &[u8]) -> bool
-    requires { Lent img.now }
-    ensures { result ≡ same_bytes (take mac_size (called_in r.now)) (mac_of (table_of img.now) p) }
+fn is_called(table: LentTable, p: PpaNumber, r: &[u8]) -> bool
+    ensures { result ≡ same_bytes (take mac_size (called_in r.now)) (mac_of (table_of table.entry.image.now) p) }
 {
-    table_lookup::has_mac(img, p, octets::part_at(r, 5, MAC_SIZE))
+    table_lookup::has_mac(table, p, octets::part_at(r, 5, MAC_SIZE))
 }
 
 // I comes to its listener, with the next number: 7 unless the PPA is known and has the called MAC, and somebody listens for it
 // and the SAP; then 8 where the listener is busy.
-fn arrives(img: &[u8], p: PpaNumber, sap: u8, r: &[u8]) -> Result<Brought, Refusal>
-    requires { Lent img.now }
-    ensures { RightlyBrought (table_of img.now) r.now result (arrives state_rows (table_of img.now) p sap r.now) }
+fn arrives(table: LentTable, p: PpaNumber, sap: u8, r: &[u8]) -> Result<Brought, Refusal>
+    ensures { RightlyBrought (table_of table.entry.image.now) r.now result (arrives state_rows (table_of table.entry.image.now) p sap r.now) }
 {
-    if !table_lookup::knows(img, p) {
+    if !table_lookup::knows(table, p) {
         return Err(Refusal::NobodyThere);
     }
-    if !is_called(img, p, r) {
+    if !is_called(table, p, r) {
         return Err(Refusal::NobodyThere);
     }
-    let i = table_lookup::listener(img, p, u32::from(sap));
+    let i = table_lookup::listener(table, p, u32::from(sap));
     if STREAM_TOTAL <= i {
         return Err(Refusal::NobodyThere);
     }
-    let n = table_numbers::next_number(img);
+    let n = table_numbers::next_number(table.image);
     Ok(Brought {
         stream: i as u8,
         refusal: Refusal::Busy,
@@ -123,17 +123,17 @@ fn arrives(img: &[u8], p: PpaNumber, sap: u8, r: &[u8]) -> Result<Brought, Refus
 }
 
 // By the record's kind. (What could not be read is refusal 10.)
-fn bring(img: &[u8], r: &[u8], q: Input) -> Result<Brought, Refusal>
-    requires { OfLine q img.now }
-    ensures { RightlyBrought (table_of img.now) r.now result (serve_by state_rows (table_of img.now) r.now q) }
+fn bring(table: LentTable, r: &[u8], q: Input) -> Result<Brought, Refusal>
+    requires { is_of_line q ≡ true }
+    ensures { RightlyBrought (table_of table.entry.image.now) r.now result (serve_by state_rows (table_of table.entry.image.now) r.now q) }
 {
     match q {
-        Input::CallArrives(p, sap) => arrives(img, p, sap, r),
-        Input::PeerAccepted(i) => named(img, i, Event::Accepted),
-        Input::PeerGone(i, reason) => named(img, i, Event::Gone(reason)),
-        Input::CallWithdrawn(i, n, reason) => named(img, i, Event::Withdrawn(n, reason)),
-        Input::PeerReset(i, reason) => named(img, i, Event::Resets(reason)),
-        Input::ResetConfirmed(i) => named(img, i, Event::Confirmed),
+        Input::CallArrives(p, sap) => arrives(table, p, sap, r),
+        Input::PeerAccepted(i) => named(table, i, Event::Accepted),
+        Input::PeerGone(i, reason) => named(table, i, Event::Gone(reason)),
+        Input::CallWithdrawn(i, n, reason) => named(table, i, Event::Withdrawn(n, reason)),
+        Input::PeerReset(i, reason) => named(table, i, Event::Resets(reason)),
+        Input::ResetConfirmed(i) => named(table, i, Event::Confirmed),
         _ => Err(Refusal::NotARecord),
     }
 }
@@ -141,10 +141,11 @@ fn bring(img: &[u8], r: &[u8], q: Input) -> Result<Brought, Refusal>
 // ---- any event
 
 // What is decided of a record of the line.
-pub fn occur(img: &[u8], r: &[u8], q: Input) -> Result<Deed, Refusal>
-    requires { Occurs q img.now }
-    ensures { Rightly (table_of img.now) r.now result (serve_by state_rows (table_of img.now) r.now q) }
+pub fn occur(table: LentTable, r: &[u8], q: Input) -> Result<Deed, Refusal>
+    requires granted { (i : ℕ) → (stream (table_of table.image.now) i).granted ≤ most_open }
+    requires line { is_of_line q ≡ true }
+    ensures { Rightly (table_of table.entry.image.now) r.now result (serve_by state_rows (table_of table.entry.image.now) r.now q) }
 {
-    let b = bring(img, r, q)?;
-    come(img, b.stream, b.refusal, b.event)
+    let b = bring(table, r, q)?;
+    come(table, b.stream, b.refusal, b.event)
 }

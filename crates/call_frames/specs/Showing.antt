@@ -1,5 +1,5 @@
 -- What is written of a frame, and what is asked of what is lent with it.
-use Rattle.std.specs.Prelude.{ℕ, ◌*◌, ◌≤◌, ◌≡◌, List, [], ◌∷◌, ◌++◌, length}
+use Rattle.std.specs.Prelude.{ℕ, ◌*◌, ◌<◌, ◌≤◌, ◌≡◌, List, [], ◌∷◌, ◌++◌, length}
 use Rattle.ledger.specs.Choice.{pick}
 use Rattle.octets.specs.Blocks.{flat, pad}
 use Rattle.paper.specs.Base.{stream_total, Table, slot}
@@ -11,7 +11,6 @@ use Rattle.paper.specs.StateRows.{state_rows}
 use Rattle.paper.specs.declared.Form.{Form}
 use Rattle.paper.specs.declared.Frame.{Frame}
 use Rattle.paper.specs.declared.Kind.TheVariants as kind
-use Rattle.table_image.specs.Lent.{Lent, LentAt}
 
 -- the stream, where the frame is shown to it
 abbrev pub if_shown : Table → Frame → ℕ → List ℕ
@@ -26,21 +25,19 @@ abbrev pub most_shown : ℕ
 most_shown = stream_total * pair_size
 
 -- a whole record of a frame, in room enough
-pub record Framed (r img room : List ℕ) : Type 0 where
-  pub lent : Lent img
+pub record Framed (r room : List ℕ) : Type 0 where
   pub whole : size_of kind.Frame ≤ length r
   pub roomy : frame_room_size ≤ length room
 
 -- with the block of its indications, and room for one
-pub record ShowsOne (i : ℕ) (r : List ℕ) (f : Frame) (block img room : List ℕ) : Type 0 where
-  pub at : LentAt i img
+pub record ShowsOne (i : ℕ) (r : List ℕ) (f : Frame) (block room : List ℕ) : Type 0 where
+  pub within : i < stream_total
   pub whole : size_of kind.Frame ≤ length r
   pub roomy : pair_size ≤ length room
   pub built : block ≡ block_of r f.form
 
 -- or for all of them
-pub record Shows (r : List ℕ) (f : Frame) (block img room : List ℕ) : Type 0 where
-  pub lent : Lent img
+pub record Shows (r : List ℕ) (f : Frame) (block room : List ℕ) : Type 0 where
   pub whole : size_of kind.Frame ≤ length r
   pub roomy : most_shown ≤ length room
   pub built : block ≡ block_of r f.form

@@ -1,7 +1,7 @@
 // A frame: each stream that it is shown to gets one indication with its M, in stream order.
 #![tactic(auto)]
 
-ghost use Rattle.std.specs.Prelude.{◌≡◌, take};
+ghost use Rattle.std.specs.Prelude.{◌<◌, ◌≡◌, take};
 ghost use Rattle.octets.specs.Runs.{same_bytes};
 ghost use Rattle.octets.specs.Writing.{WroteMost};
 ghost use Rattle.paper.specs.Base.{mac_size, stream_total, slot, mac_of};
@@ -10,7 +10,6 @@ ghost use Rattle.paper.specs.RecordsOut.{all_bytes};
 ghost use Rattle.paper.specs.Datagrams.{is_for, is_shown, shown_below, indications, frames};
 ghost use Rattle.paper.specs.StateRows.{state_rows};
 ghost use Rattle.table_image.specs.Layout.{table_of};
-ghost use Rattle.table_image.specs.Lent.{Lent, LentAt};
 ghost use Rattle.call_outcomes.specs.Leaving.{left, leaving};
 ghost use Rattle.call_outcomes.specs.Answering.{call_number};
 ghost use Rattle.call_frames.specs.Showing.{if_shown, block_of, Framed, ShowsOne, Shows, most_shown};
@@ -18,6 +17,7 @@ ghost use Rattle.call_frames.specs.Showing.{if_shown, block_of, Framed, ShowsOne
 use call_outcomes::{Refusal, Served};
 use octets::BLOCK_SIZE;
 use paper::{BODY_SIZE, Form, Frame, MAC_SIZE, MOST_DATA, STREAM_TOTAL, Stream};
+use table_image::LentTable;
 
 // A stream with a row for frames, of its PPA, bound to its SAP in its form.
 fn is_for(s: Stream, f: Frame) -> bool
@@ -37,17 +37,17 @@ fn is_for(s: Stream, f: Frame) -> bool
 }
 
 // The stream is open, and the frame is for it. The SAP is asked first: it is another for most.
-fn is_shown(img: &[u8], i: usize, f: Frame) -> bool
-    requires { LentAt i img.now }
-    ensures { result ≡ is_shown state_rows f (slot (table_of img.now) i) }
+fn is_shown(table: LentTable, i: usize, f: Frame) -> bool
+    requires { i < stream_total }
+    ensures { result ≡ is_shown state_rows f (slot (table_of table.entry.image.now) i) }
 {
-    if table_image::sap_at(img, i) != f.sap {
+    if table.sap_at(i) != f.sap {
         return false;
     }
-    if !table_image::is_open(img, i) {
+    if !table.is_open(i) {
         return false;
     }
-    is_for(table_image::load_stream(img, i), f)
+    is_for(table.load_stream(i), f)
 }
 
 // The block of an indication, which is the same for all streams.
@@ -63,12 +63,19 @@ fn block_in(r: &[u8], form: Form) -> [u8; BLOCK_SIZE]
 }
 
 // An indication and its M, where the frame is shown to the stream.
-fn put_if_shown(img: &[u8], room: &mut [u8], i: usize, r: &[u8], f: Frame, block: &[u8]) -> usize
-    requires { ShowsOne i r.now f block.now img.now room.old }
-    ensures { WroteMost pair_size (all_bytes (indications r.now f (if_shown (table_of img.now) f i))) 0 result room.old room.new }
+fn put_if_shown(
+    table: LentTable,
+    room: &mut [u8],
+    i: usize,
+    r: &[u8],
+    f: Frame,
+    block: &[u8],
+) -> usize
+    requires { ShowsOne i r.now f block.now room.old }
+    ensures { WroteMost pair_size (all_bytes (indications r.now f (if_shown (table_of table.entry.image.now) f i))) 0 result room.old room.new }
 {
     let form = f.form;
-    if !is_shown(img, i, f) {
+    if !is_shown(table, i, f) {
         return 0;
     }
     let size = 24 + 2 * form.length();
@@ -82,43 +89,42 @@ fn put_if_shown(img: &[u8], room: &mut [u8], i: usize, r: &[u8], f: Frame, block
 }
 
 // In stream order, each right behind the one before.
-fn put_indications(img: &[u8], room: &mut [u8], r: &[u8], f: Frame, block: &[u8]) -> usize
-    requires { Shows r.now f block.now img.now room.old }
-    ensures { WroteMost most_shown (all_bytes (indications r.now f (shown_below state_rows (table_of img.now) f stream_total))) 0 result room.old room.new }
+fn put_indications(table: LentTable, room: &mut [u8], r: &[u8], f: Frame, block: &[u8]) -> usize
+    requires { Shows r.now f block.now room.old }
+    ensures { WroteMost most_shown (all_bytes (indications r.now f (shown_below state_rows (table_of table.entry.image.now) f stream_total))) 0 result room.old room.new }
 {
     let mut n = 0;
     for i in 0..STREAM_TOTAL {
-        n += put_if_shown(img, &mut room[n..], i, r, f, block);
+        n += put_if_shown(table, &mut room[n..], i, r, f, block);
     }
     n
 }
 
 // The called MAC is that of the PPA.
-fn is_called(img: &[u8], r: &[u8], f: Frame) -> bool
-    requires { Lent img.now }
-    ensures { result ≡ same_bytes (take mac_size (frame_called_in r.now f.form)) (mac_of (table_of img.now) f.ppa) }
+fn is_called(table: LentTable, r: &[u8], f: Frame) -> bool
+    ensures { result ≡ same_bytes (take mac_size (frame_called_in r.now f.form)) (mac_of (table_of table.entry.image.now) f.ppa) }
 {
     let p = f.ppa;
-    table_lookup::has_mac(img, p, octets::part_at(r, 6, MAC_SIZE))
+    table_lookup::has_mac(table, p, octets::part_at(r, 6, MAC_SIZE))
 }
 
 // 5 for data over 64, 7 on an unknown PPA; else the indications, none where the called MAC is another.
-pub fn show(img: &[u8], room: &mut [u8], r: &[u8], f: Frame) -> Result<Served, Refusal>
-    requires { Framed r.now img.now room.old }
-    ensures { left (call_number result) img.now room.new ≡ leaving img.now room.old (frames state_rows (table_of img.now) r.now f) }
+pub fn show(table: LentTable, room: &mut [u8], r: &[u8], f: Frame) -> Result<Served, Refusal>
+    requires { Framed r.now room.old }
+    ensures { left (call_number result) table.entry.image.now room.new ≡ leaving table.entry.image.now room.old (frames state_rows (table_of table.entry.image.now) r.now f) }
 {
     let p = f.ppa;
     let form = f.form;
     if MOST_DATA < f.bytes as usize {
         return Err(Refusal::OverLong);
     }
-    if !table_lookup::knows(img, p) {
+    if !table_lookup::knows(table, p) {
         return Err(Refusal::NobodyThere);
     }
-    if !is_called(img, r, f) {
+    if !is_called(table, r, f) {
         return Ok(Served::Wrote(0));
     }
     let block = block_in(r, form);
-    let written = put_indications(img, room, r, f, &block);
+    let written = put_indications(table, room, r, f, &block);
     Ok(Served::Wrote(written as u16))
 }

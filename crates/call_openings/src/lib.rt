@@ -1,8 +1,8 @@
 // Adding a PPA, opening and closing.
 #![tactic(auto)]
 
-ghost use Rattle.std.specs.Prelude.{List, map, ◌≡◌, ℕ};
-ghost use Rattle.paper.specs.Base.{slot, waiting};
+ghost use Rattle.std.specs.Prelude.{List, map, length, ◌<◌, ◌≡◌, ◌≤◌, ℕ};
+ghost use Rattle.paper.specs.Base.{stream_total, slot, waiting};
 ghost use Rattle.paper.specs.RecordsOut.{all_bytes};
 ghost use Rattle.paper.specs.Openings.{adds_ppa, opens, goodbye, goodbyes, closes};
 ghost use Rattle.paper.specs.Step.{of_open};
@@ -12,24 +12,26 @@ ghost use Rattle.call_outcomes.specs.Leaving.{left, leaving};
 ghost use Rattle.call_outcomes.specs.Answering.{call_number};
 ghost use Rattle.octets.specs.Writing.{WroteMost};
 ghost use Rattle.table_image.specs.Lent.{LentMac};
-ghost use Rattle.call_outcomes.specs.Rooms.{LentCall, LentRoom};
+ghost use Rattle.call_outcomes.specs.Rooms.{LentCall};
 ghost use Rattle.call_openings.specs.Openable.{Openable, most_goodbyes};
 
 use call_outcomes::{Refusal, Served};
 use paper::{Correlation, DISCONNECT_SIZE, LineOrder, MOST_PPAS, PpaNumber};
+use table_image::LentTable;
 
 // G adds a PPA: none after any opening, no ninth, none whose number is already there.
 pub fn add_ppa(img: &mut [u8], p: PpaNumber, mac: &[u8]) -> Result<Served, Refusal>
     requires { LentMac mac.now img.old }
     ensures { (room : List ℕ) → left (call_number result) img.new room ≡ leaving img.old room (adds_ppa (table_of img.old) p mac.now) }
 {
-    if table_image::remembers(img) {
+    let table = LentTable { image: img };
+    if table.remembers() {
         return Err(Refusal::NoNewPpa);
     }
-    if MOST_PPAS <= table_image::ppa_total(img) as usize {
+    if MOST_PPAS <= table.ppa_total() as usize {
         return Err(Refusal::NoNewPpa);
     }
-    if table_lookup::knows(img, p) {
+    if table_lookup::knows(table, p) {
         return Err(Refusal::NoNewPpa);
     }
     table_image::store_ppa(img, p, mac);
@@ -50,14 +52,15 @@ pub fn open_stream(img: &mut [u8]) -> Result<Served, Refusal>
 }
 
 // A d with reason 0 for each open indication, the oldest first.
-fn put_drops(img: &[u8], room: &mut [u8], i: u8) -> usize
-    requires { LentRoom room_size i img.now room.old }
-    ensures { WroteMost most_goodbyes (all_bytes (map (goodbye i) (waiting (table_of img.now) i))) 0 result room.old room.new }
+fn put_drops(table: LentTable, room: &mut [u8], i: u8) -> usize
+    requires within { i < stream_total }
+    requires roomy { room_size ≤ length room.old }
+    ensures { WroteMost most_goodbyes (all_bytes (map (goodbye i) (waiting (table_of table.entry.image.now) i))) 0 result room.old room.new }
 {
     let at = i as usize;
-    let count = table_image::count_at(img, at) as usize;
+    let count = table.count_at(at) as usize;
     for k in 0..count {
-        let c = table_numbers::number_at(img, at, k);
+        let c = table_numbers::number_at(table, at, k);
         wire_replies::put_order(
             &mut room[k * DISCONNECT_SIZE..],
             i,
@@ -68,13 +71,14 @@ fn put_drops(img: &[u8], room: &mut [u8], i: u8) -> usize
 }
 
 // From 9 one d for each open indication; from 8, 11, 12, 13 one with correlation 0.
-fn put_goodbyes(img: &[u8], room: &mut [u8], i: u8) -> usize
-    requires { LentRoom room_size i img.now room.old }
-    ensures { WroteMost most_goodbyes (all_bytes (goodbyes i (slot (table_of img.now) i))) 0 result room.old room.new }
+fn put_goodbyes(table: LentTable, room: &mut [u8], i: u8) -> usize
+    requires within { i < stream_total }
+    requires roomy { room_size ≤ length room.old }
+    ensures { WroteMost most_goodbyes (all_bytes (goodbyes i (slot (table_of table.entry.image.now) i))) 0 result room.old room.new }
 {
-    let state = table_image::state_at(img, i as usize);
+    let state = table.state_at(i as usize);
     if state.number() == 9 {
-        return put_drops(img, room, i);
+        return put_drops(table, room, i);
     }
     if state.is_calling() {
         return wire_replies::put_order(room, i, LineOrder::Disconnect(Correlation(0), 0));
@@ -88,10 +92,11 @@ pub fn close_stream(img: &mut [u8], room: &mut [u8], i: u8) -> Result<Served, Re
     ensures { left (call_number result) img.new room.new ≡ leaving img.old room.old (of_open (table_of img.old) i (closes (table_of img.old) i)) }
 {
     let at = i as usize;
-    if !table_image::is_open(img, at) {
+    let table = LentTable { image: img };
+    if !table.is_open(at) {
         return Err(Refusal::NotOpen);
     }
-    let written = put_goodbyes(img, room, i);
+    let written = put_goodbyes(table, room, i);
     table_image::close_slot(img, at);
     Ok(Served::Wrote(written as u16))
 }

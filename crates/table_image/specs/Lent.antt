@@ -26,11 +26,6 @@ pub record LentAt (i : ℕ) (img : List ℕ) : Type 0 where
   pub within : i < stream_total
   pub lent : Lent img
 
--- a stream of it that stands as s,
-pub record Loaded (s : Stream) (i : ℕ) (img : List ℕ) : Type 0 where
-  pub at : LentAt i img
-  pub loaded : s ≡ stream (table_of img) i
-
 -- one that is closed,
 pub record LentClosed (i : ℕ) (img : List ℕ) : Type 0 where
   pub at : LentAt i img
@@ -41,20 +36,12 @@ pub record LentOpen (i : ℕ) (img : List ℕ) : Type 0 where
   pub at : LentAt i img
   pub opened : (slot (table_of img) i).is_open ≡ true
 
--- an open number of a stream, by its place, and a place for one more
-pub record LentNumber (i k : ℕ) (img : List ℕ) : Type 0 where
-  pub at : LentAt i img
-  pub placed : k < length (waiting (table_of img) i)
-
+-- a place for one open number more
 pub record NumberPlace (i : ℕ) (img : List ℕ) : Type 0 where
   pub at : LentAt i img
   pub place : length (waiting (table_of img) i) < most_open
 
--- a PPA, by its place; a MAC, and a place for one PPA more
-pub record LentPpa (k : ℕ) (img : List ℕ) : Type 0 where
-  pub lent : Lent img
-  pub placed : k < length (table_of img).ppas
-
+-- a MAC, and a place for one PPA more
 pub record LentMac (mac img : List ℕ) : Type 0 where
   pub lent : Lent img
   pub six : length mac ≡ mac_size
@@ -67,3 +54,8 @@ pub record PpaPlace (mac img : List ℕ) : Type 0 where
 pub record Masked (i m b : ℕ) : Type 0 where
   pub within : i < stream_total
   pub told : bit m i ≡ b
+
+-- a stream of the table stands as s
+pub record Loaded (s : Stream) (i : ℕ) (img : List ℕ) : Type 0 where
+  pub within : i < stream_total
+  pub loaded : s ≡ stream (table_of img) i

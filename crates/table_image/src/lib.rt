@@ -1,11 +1,11 @@
 // The table as a lent image: see specs/ for its layout and proofs/ for its laws.
 #![tactic(auto)]
 
-ghost use Rattle.std.specs.Prelude.{not, ◌≡◌, ◌+◌, ◌-◌, ◌^◌, length};
+ghost use Rattle.std.specs.Prelude.{not, ◌<◌, ◌≡◌, ◌+◌, ◌-◌, ◌^◌, length};
 ghost use Rattle.ledger.specs.Tally.{one_if, sum_of};
-ghost use Rattle.paper.specs.Base.{Slot, fresh, slot, stream, waiting, closed, just_opened, lowest_free, with_slot, with_stream, with_counter, with_ppa, remembering};
+ghost use Rattle.paper.specs.Base.{stream_total, Slot, fresh, slot, stream, waiting, closed, just_opened, lowest_free, with_slot, with_stream, with_counter, with_ppa, remembering};
 ghost use Rattle.table_image.specs.Layout.{stream_from, mask_in, table_of, stream_bytes, image_of, slot_size};
-ghost use Rattle.table_image.specs.Lent.{Lent, Held, At, LentAt, LentClosed, LentOpen, PpaPlace, Masked};
+ghost use Rattle.table_image.specs.Lent.{Lent, Held, LentAt, LentClosed, LentOpen, PpaPlace, Masked};
 
 use paper::{MAC_SIZE, MOST_OPEN, MOST_PPAS, PpaNumber, STREAM_TOTAL, State, Stream};
 
@@ -47,8 +47,6 @@ pub const SLOT_SIZE: usize = NUMBERS_OFFSET + NUMBERS_SIZE;
 
 pub const IMAGE_SIZE: usize = SLOTS_OFFSET + STREAM_TOTAL * SLOT_SIZE;
 
-// ---- streams
-
 // The stream in the bytes of a slot.
 fn stream_from(c: &[u8]) -> Stream
     requires { length c.now ≡ slot_size }
@@ -66,51 +64,96 @@ fn stream_from(c: &[u8]) -> Stream
     }
 }
 
-// How a stream stands.
-pub fn load_stream(img: &[u8], i: usize) -> Stream
-    requires { At i img.now }
-    ensures { result ≡ stream (table_of img.now) i }
-{
-    let at = i * SLOT_SIZE + SLOTS_OFFSET;
-    stream_from(&img[at..at + SLOT_SIZE])
+// ---- the table, to be read where it lies
+
+// The image of a table, lent to be read.
+#[derive(Clone, Copy)]
+pub struct LentTable<'a> {
+    pub image: &'a [u8],
+    pub ghost lent: { Lent image.now },
 }
 
-// One thing of a stream, read where it lies.
-pub fn state_at(img: &[u8], i: usize) -> State
-    requires { At i img.now }
-    ensures { result ≡ (stream (table_of img.now) i).state }
-{
-    State::of_number(img[i * SLOT_SIZE + SLOTS_OFFSET + STATE_OFFSET])
+impl<'a> LentTable<'a> {
+    // A stream was ever opened.
+    pub fn remembers(self) -> bool
+        ensures { result ≡ (table_of self.entry.image.now).remembers }
+    {
+        self.image[MEMORY_OFFSET] == 1
+    }
+
+    pub fn ppa_total(self) -> u8
+        ensures { result ≡ length (table_of self.entry.image.now).ppas }
+    {
+        self.image[PPA_COUNT_OFFSET]
+    }
+
+    // The counter for correlation numbers.
+    pub fn counter(self) -> u32
+        ensures { result ≡ (table_of self.entry.image.now).counter }
+    {
+        octets::number_inside::<u32>(self.image, COUNTER_OFFSET)
+    }
+
+    // Past the table's end no stream is open.
+    pub fn is_open(self, i: usize) -> bool
+        ensures { result ≡ (slot (table_of self.entry.image.now) i).is_open }
+    {
+        if i < STREAM_TOTAL {
+            let m = mask_in(self.image);
+            return (m >> (i as u32)) % 2 == 0;
+        }
+        false
+    }
+
+    // How a stream stands.
+    pub fn load_stream(self, i: usize) -> Stream
+        requires { i < stream_total }
+        ensures { result ≡ stream (table_of self.entry.image.now) i }
+    {
+        let at = i * SLOT_SIZE + SLOTS_OFFSET;
+        stream_from(&self.image[at..at + SLOT_SIZE])
+    }
+
+    // One thing of a stream, read where it lies.
+    pub fn state_at(self, i: usize) -> State
+        requires { i < stream_total }
+        ensures { result ≡ (stream (table_of self.entry.image.now) i).state }
+    {
+        State::of_number(self.image[i * SLOT_SIZE + SLOTS_OFFSET + STATE_OFFSET])
+    }
+
+    pub fn granted_at(self, i: usize) -> u8
+        requires { i < stream_total }
+        ensures { result ≡ (stream (table_of self.entry.image.now) i).granted }
+    {
+        self.image[i * SLOT_SIZE + SLOTS_OFFSET + GRANTED_OFFSET]
+    }
+
+    pub fn attached_at(self, i: usize) -> PpaNumber
+        requires { i < stream_total }
+        ensures { result ≡ (stream (table_of self.entry.image.now) i).ppa }
+    {
+        let at = i * SLOT_SIZE + SLOTS_OFFSET + ATTACHED_OFFSET;
+        PpaNumber(octets::number_inside::<u32>(self.image, at))
+    }
+
+    pub fn sap_at(self, i: usize) -> u16
+        requires { i < stream_total }
+        ensures { result ≡ (stream (table_of self.entry.image.now) i).sap }
+    {
+        octets::number_inside::<u16>(self.image, i * SLOT_SIZE + SLOTS_OFFSET + SAP_OFFSET)
+    }
+
+    // How many indications of a stream are open.
+    pub fn count_at(self, i: usize) -> u8
+        requires { i < stream_total }
+        ensures { result ≡ length (waiting (table_of self.entry.image.now) i) }
+    {
+        self.image[i * SLOT_SIZE + SLOTS_OFFSET + COUNT_OFFSET]
+    }
 }
 
-pub fn granted_at(img: &[u8], i: usize) -> u8
-    requires { At i img.now }
-    ensures { result ≡ (stream (table_of img.now) i).granted }
-{
-    img[i * SLOT_SIZE + SLOTS_OFFSET + GRANTED_OFFSET]
-}
-
-pub fn attached_at(img: &[u8], i: usize) -> PpaNumber
-    requires { At i img.now }
-    ensures { result ≡ (stream (table_of img.now) i).ppa }
-{
-    PpaNumber(octets::number_inside::<u32>(img, i * SLOT_SIZE + SLOTS_OFFSET + ATTACHED_OFFSET))
-}
-
-pub fn sap_at(img: &[u8], i: usize) -> u16
-    requires { At i img.now }
-    ensures { result ≡ (stream (table_of img.now) i).sap }
-{
-    octets::number_inside::<u16>(img, i * SLOT_SIZE + SLOTS_OFFSET + SAP_OFFSET)
-}
-
-// How many indications of a stream are open.
-pub fn count_at(img: &[u8], i: usize) -> u8
-    requires { At i img.now }
-    ensures { result ≡ length (waiting (table_of img.now) i) }
-{
-    img[i * SLOT_SIZE + SLOTS_OFFSET + COUNT_OFFSET]
-}
+// ---- streams
 
 // The bytes of a stream in its slot.
 pub fn stream_bytes(s: Stream) -> [u8; COUNT_OFFSET]
@@ -163,18 +206,6 @@ fn mask_with(m: u16, i: usize) -> u16
     m + (1u16 << (i as u32))
 }
 
-// Past the table's end no stream is open.
-pub fn is_open(img: &[u8], i: usize) -> bool
-    requires { Held img.now }
-    ensures { result ≡ (slot (table_of img.now) i).is_open }
-{
-    if i < STREAM_TOTAL {
-        let m = mask_in(img);
-        return (m >> (i as u32)) % 2 == 0;
-    }
-    false
-}
-
 // How many streams are closed.
 pub fn free_total(img: &[u8]) -> u32
     requires { Lent img.now }
@@ -211,29 +242,6 @@ pub fn close_slot(img: &mut [u8], i: usize)
 
 // ---- the rest of the header
 
-// A stream was ever opened.
-pub fn remembers(img: &[u8]) -> bool
-    requires { Held img.now }
-    ensures { result ≡ (table_of img.now).remembers }
-{
-    img[MEMORY_OFFSET] == 1
-}
-
-pub fn ppa_total(img: &[u8]) -> u8
-    requires { Held img.now }
-    ensures { result ≡ length (table_of img.now).ppas }
-{
-    img[PPA_COUNT_OFFSET]
-}
-
-// The counter for correlation numbers.
-pub fn counter(img: &[u8]) -> u32
-    requires { Held img.now }
-    ensures { result ≡ (table_of img.now).counter }
-{
-    octets::number_inside::<u32>(img, COUNTER_OFFSET)
-}
-
 pub fn store_counter(img: &mut [u8], n: u32)
     requires { Lent img.old }
     ensures { img.new ≡ image_of (with_counter (table_of img.old) n) }
@@ -246,7 +254,7 @@ pub fn store_ppa(img: &mut [u8], p: PpaNumber, mac: &[u8])
     requires { PpaPlace mac.now img.old }
     ensures { img.new ≡ image_of (with_ppa (table_of img.old) (record { number = p; mac = mac.now })) }
 {
-    let n = ppa_total(img);
+    let n = LentTable { image: img }.ppa_total();
     let at = (n as usize) * PLACE_SIZE + PLACES_OFFSET;
     octets::put_number::<u32>(img, at, p.0);
     octets::put_bytes(img, at + MAC_OFFSET, mac);

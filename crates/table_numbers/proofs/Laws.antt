@@ -13,7 +13,7 @@ use Rattle.paper.specs.Base.{Slot, Table, slot, stream, waiting, with_numbers, s
 use Rattle.paper.specs.declared.Stream.{Stream}
 use Rattle.table_image.specs.Layout.{slot_base, waiting_from, slot_at, table_of, stream_bytes, waiting_bytes, slot_bytes, image_of, count_offset}
 use Rattle.table_image.specs.Layout.{numbers_offset, numbers_size, slot_size, slots_offset, number_base, slot_part}
-use Rattle.table_image.specs.Lent.{Lent, LentNumber}
+use Rattle.table_image.specs.Lent.{Lent}
 use Rattle.table_image.proofs.Shapes.{stream-length}
 use Rattle.table_image.proofs.Stored.{store_numbers}
 use Rattle.table_image.proofs.TableBack.{slot-at, slot-part}
@@ -24,8 +24,8 @@ use Rattle.paper.specs.Saps.{most_open}
 -- ---- in an image
 
 -- a stream has no more open numbers than there are places for
-pub placed-few : {i k : ℕ} {img : List ℕ} → LentNumber i k img → k < most_open
-placed-few {i} l = omega (arith, l.placed, l.at.lent.shaped.eight i)
+pub placed-few : (img : List ℕ) → Lent img → (i k : ℕ) → k < length (waiting (table_of img) i) → k < most_open
+placed-few img l i k h = omega (arith, h, l.shaped.eight i)
 
 module _ (img : List ℕ) (l : Lent img) (i : ℕ) (b : i < stream_total) where
   -- the number at a place

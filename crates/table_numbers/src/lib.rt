@@ -1,17 +1,18 @@
 // The open numbers of the streams: reading, counting, all in a row, the next number, one more, one less.
 #![tactic(auto)]
 
-ghost use Rattle.std.specs.Prelude.{◌≡◌, suc, ◌+◌, [], ◌∷◌, ◌++◌, length, take, drop, get_or, eqb, position};
+ghost use Rattle.std.specs.Prelude.{◌≡◌, ◌<◌, ◌≤◌, suc, ◌+◌, [], ◌∷◌, ◌++◌, length, take, drop, get_or, eqb, position};
 ghost use Rattle.ledger.specs.Tally.{occ, has, without, free};
 ghost use Rattle.octets.specs.Runs.{paste};
-ghost use Rattle.paper.specs.Base.{waiting, with_numbers};
+ghost use Rattle.paper.specs.Base.{stream_total, waiting, with_numbers};
+ghost use Rattle.paper.specs.Saps.{most_open};
 ghost use Rattle.paper.specs.Correlations.{occurrences, next_number};
 ghost use Rattle.table_image.specs.Layout.{slot_base, table_of, stream_bytes, waiting_bytes, image_of};
-ghost use Rattle.table_image.specs.Lent.{Lent, At, LentAt, LentNumber, NumberPlace};
-ghost use Rattle.table_numbers.specs.Row.{InRow, RowRoom, CopyRoom};
+ghost use Rattle.table_image.specs.Lent.{Lent, At, LentAt, NumberPlace};
+ghost use Rattle.table_numbers.specs.Row.{InRow, RowRoom};
 
 use paper::{Correlation, MOST_NUMBERS, STREAM_TOTAL, Stream};
-use table_image::{COUNT_OFFSET, NUMBERS_OFFSET, NUMBERS_SIZE, SLOT_SIZE, SLOTS_OFFSET};
+use table_image::{COUNT_OFFSET, LentTable, NUMBERS_OFFSET, NUMBERS_SIZE, SLOT_SIZE, SLOTS_OFFSET};
 
 // The most numbers that are passed over for the next one.
 const MOST_PASSED: usize = MOST_NUMBERS + 1;
@@ -25,36 +26,37 @@ const FIRST_COUNT: usize = SLOTS_OFFSET + COUNT_OFFSET;
 const FIRST_NUMBER: usize = SLOTS_OFFSET + NUMBERS_OFFSET;
 
 // The open number at a place, the oldest first.
-pub fn number_at(img: &[u8], i: usize, k: usize) -> Correlation
-    requires { LentNumber i k img.now }
-    ensures { result ≡ record { 0 = get_or (waiting (table_of img.now) i) k 0 } }
+pub fn number_at(table: LentTable, i: usize, k: usize) -> Correlation
+    requires within { i < stream_total }
+    requires placed { k < length (waiting (table_of table.image.now) i) }
+    ensures { result ≡ record { 0 = get_or (waiting (table_of table.entry.image.now) i) k 0 } }
 {
-    Correlation(octets::number_inside::<u32>(img, i * SLOT_SIZE + k * 4 + FIRST_NUMBER))
+    Correlation(octets::number_inside::<u32>(table.image, i * SLOT_SIZE + k * 4 + FIRST_NUMBER))
 }
 
 // The first place of a number among a stream's open ones.
-fn number_place(img: &[u8], i: usize, n: Correlation) -> Option<usize>
-    requires { LentAt i img.now }
-    ensures { result ≡ position (eqb n.0) (waiting (table_of img.now) i) }
+fn number_place(table: LentTable, i: usize, n: Correlation) -> Option<usize>
+    requires { i < stream_total }
+    ensures { result ≡ position (eqb n.0) (waiting (table_of table.entry.image.now) i) }
 {
-    (0..table_image::count_at(img, i) as usize).find(|&k| n.0 == number_at(img, i, k).0)
+    (0..table.count_at(i) as usize).find(|&k| n.0 == number_at(table, i, k).0)
 }
 
 // A number is open on a stream.
-pub fn is_waiting(img: &[u8], i: usize, n: Correlation) -> bool
-    requires { LentAt i img.now }
-    ensures { result ≡ has n.0 (waiting (table_of img.now) i) }
+pub fn is_waiting(table: LentTable, i: usize, n: Correlation) -> bool
+    requires { i < stream_total }
+    ensures { result ≡ has n.0 (waiting (table_of table.entry.image.now) i) }
 {
-    number_place(img, i, n).is_some()
+    number_place(table, i, n).is_some()
 }
 
 // How many numbers stay open on a stream without one of them.
-pub fn remaining(img: &[u8], i: usize, n: Correlation) -> u8
-    requires { LentAt i img.now }
-    ensures { result ≡ length (without n.0 (waiting (table_of img.now) i)) }
+pub fn remaining(table: LentTable, i: usize, n: Correlation) -> u8
+    requires { i < stream_total }
+    ensures { result ≡ length (without n.0 (waiting (table_of table.entry.image.now) i)) }
 {
-    let count = table_image::count_at(img, i);
-    if is_waiting(img, i, n) {
+    let count = table.count_at(i);
+    if is_waiting(table, i, n) {
         count - 1
     } else {
         count
@@ -62,30 +64,30 @@ pub fn remaining(img: &[u8], i: usize, n: Correlation) -> u8
 }
 
 // How often a number is open on a stream.
-fn occurs_on(img: &[u8], i: usize, n: u32) -> u32
-    requires { LentAt i img.now }
-    ensures { result ≡ occ n (waiting (table_of img.now) i) }
+fn occurs_on(table: LentTable, i: usize, n: u32) -> u32
+    requires { i < stream_total }
+    ensures { result ≡ occ n (waiting (table_of table.entry.image.now) i) }
 {
-    (0..table_image::count_at(img, i) as usize)
-        .filter(|&k| n == number_at(img, i, k).0)
+    (0..table.count_at(i) as usize)
+        .filter(|&k| n == number_at(table, i, k).0)
         .count() as u32
 }
 
 // How often a number is open in the table.
-fn occurrences(img: &[u8], n: u32) -> u32
-    requires { Lent img.now }
-    ensures { result ≡ occurrences (table_of img.now) n }
+fn occurrences(table: LentTable, n: u32) -> u32
+    ensures { result ≡ occurrences (table_of table.entry.image.now) n }
 {
-    (0..STREAM_TOTAL).map(|i| occurs_on(img, i, n)).sum()
+    (0..STREAM_TOTAL).map(|i| occurs_on(table, i, n)).sum()
 }
 
 // A stream's open numbers over others, from a place on.
-fn copy_numbers(img: &[u8], i: usize, dst: &mut [u32], at: usize)
-    requires { CopyRoom i img.now at dst.old }
-    ensures { dst.new ≡ paste dst.old at (waiting (table_of img.now) i) }
+fn copy_numbers(table: LentTable, i: usize, dst: &mut [u32], at: usize)
+    requires within { i < stream_total }
+    requires fits { at + length (waiting (table_of table.image.now) i) ≤ length dst.old }
+    ensures { dst.new ≡ paste dst.old at (waiting (table_of table.entry.image.now) i) }
 {
-    for k in 0..table_image::count_at(img, i) as usize {
-        dst[at + k] = number_at(img, i, k).0;
+    for k in 0..table.count_at(i) as usize {
+        dst[at + k] = number_at(table, i, k).0;
     }
 }
 
@@ -95,20 +97,20 @@ pub fn open_numbers(img: &[u8], dst: &mut [u32]) -> usize
     requires { RowRoom img.now dst.old }
     ensures { InRow (table_of img.now) result dst.new }
 {
+    let table = LentTable { image: img };
     let mut total = 0;
     for i in 0..STREAM_TOTAL {
-        copy_numbers(img, i, dst, total);
-        total += table_image::count_at(img, i) as usize;
+        copy_numbers(table, i, dst, total);
+        total += table.count_at(i) as usize;
     }
     total
 }
 
 // Not 0, and open nowhere.
-fn is_free(img: &[u8], n: u32) -> bool
-    requires { Lent img.now }
-    ensures { result ≡ free (occurrences (table_of img.now)) n }
+fn is_free(table: LentTable, n: u32) -> bool
+    ensures { result ≡ free (occurrences (table_of table.entry.image.now)) n }
 {
-    0 < n && occurrences(img, n) == 0
+    0 < n && occurrences(table, n) == 0
 }
 
 // The counter's number, passing over 0 and numbers still open: at most one more than can be open.
@@ -116,9 +118,10 @@ pub fn next_number(img: &[u8]) -> u32
     requires { Lent img.now }
     ensures { result ≡ next_number (table_of img.now) }
 {
-    let mut n = table_image::counter(img);
+    let table = LentTable { image: img };
+    let mut n = table.counter();
     for _ in 0..MOST_PASSED {
-        if is_free(img, n) {
+        if is_free(table, n) {
             return n;
         }
         n = n.wrapping_add(1);
@@ -127,35 +130,37 @@ pub fn next_number(img: &[u8]) -> u32
 }
 
 // The bytes of a stream's open numbers.
-fn numbers_of(img: &[u8], i: usize) -> [u8; NUMBER_BYTES]
-    requires { LentAt i img.now }
-    ensures { result ≡ waiting_bytes (waiting (table_of img.now) i) }
+fn numbers_of(table: LentTable, i: usize) -> [u8; NUMBER_BYTES]
+    requires { i < stream_total }
+    ensures { result ≡ waiting_bytes (waiting (table_of table.entry.image.now) i) }
 {
     let at = i * SLOT_SIZE + FIRST_COUNT;
     let mut bytes = [0u8; NUMBER_BYTES];
-    octets::put_bytes(&mut bytes, 0, &img[at..at + NUMBER_BYTES]);
+    octets::put_bytes(&mut bytes, 0, &table.image[at..at + NUMBER_BYTES]);
     bytes
 }
 
 // Those bytes with one number more behind the others.
-fn one_number_more(img: &[u8], i: usize, n: u32) -> [u8; NUMBER_BYTES]
-    requires { NumberPlace i img.now }
-    ensures { result ≡ waiting_bytes (waiting (table_of img.now) i ++ (n ∷ [])) }
+fn one_number_more(table: LentTable, i: usize, n: u32) -> [u8; NUMBER_BYTES]
+    requires within { i < stream_total }
+    requires place { length (waiting (table_of table.image.now) i) < most_open }
+    ensures { result ≡ waiting_bytes (waiting (table_of table.entry.image.now) i ++ (n ∷ [])) }
 {
-    let count = table_image::count_at(img, i);
-    let mut bytes = numbers_of(img, i);
+    let count = table.count_at(i);
+    let mut bytes = numbers_of(table, i);
     octets::put_number::<u32>(&mut bytes, (count as usize) * 4 + 1, n);
     bytes[0] = count + 1;
     bytes
 }
 
 // Those bytes without the number at a place: the later ones move down.
-fn one_number_less(img: &[u8], i: usize, k: usize) -> [u8; NUMBER_BYTES]
-    requires { LentNumber i k img.now }
-    ensures { result ≡ waiting_bytes (take k (waiting (table_of img.now) i) ++ drop (suc k) (waiting (table_of img.now) i)) }
+fn one_number_less(table: LentTable, i: usize, k: usize) -> [u8; NUMBER_BYTES]
+    requires within { i < stream_total }
+    requires placed { k < length (waiting (table_of table.image.now) i) }
+    ensures { result ≡ waiting_bytes (take k (waiting (table_of table.entry.image.now) i) ++ drop (suc k) (waiting (table_of table.entry.image.now) i)) }
 {
-    let count = table_image::count_at(img, i);
-    let old = numbers_of(img, i);
+    let count = table.count_at(i);
+    let old = numbers_of(table, i);
     let at = k * 4 + 1;
     let mut bytes = [0u8; NUMBER_BYTES];
     octets::put_bytes(&mut bytes, 0, &old[0..at]);
@@ -180,7 +185,7 @@ pub fn add_number(img: &mut [u8], i: usize, s: Stream, n: Correlation)
     requires { NumberPlace i img.old }
     ensures { img.new ≡ image_of (with_numbers (table_of img.old) i s (waiting (table_of img.old) i ++ (n.0 ∷ []))) }
 {
-    let bytes = one_number_more(img, i, n.0);
+    let bytes = one_number_more(LentTable { image: img }, i, n.0);
     put_slot(img, i, s, bytes);
 }
 
@@ -189,8 +194,8 @@ pub fn remove_number(img: &mut [u8], i: usize, s: Stream, n: Correlation)
     requires { LentAt i img.old }
     ensures { img.new ≡ image_of (with_numbers (table_of img.old) i s (without n.0 (waiting (table_of img.old) i))) }
 {
-    if let Some(k) = number_place(img, i, n) {
-        let bytes = one_number_less(img, i, k);
+    if let Some(k) = number_place(LentTable { image: img }, i, n) {
+        let bytes = one_number_less(LentTable { image: img }, i, k);
         put_slot(img, i, s, bytes);
     } else {
         table_image::store_stream(img, i, s);

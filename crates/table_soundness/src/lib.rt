@@ -1,18 +1,18 @@
 // Refusal 16: whether a lent image is the image of a sound table, tested where it lies.
 #![tactic(auto)]
 
-ghost use Rattle.std.specs.Prelude.{◌≡◌, ℕ, ◌≤◌, length, get_or, leb};
+ghost use Rattle.std.specs.Prelude.{◌≡◌, ℕ, ◌<◌, ◌≤◌, length, get_or, leb};
 ghost use Rattle.ledger.specs.Tally.{occ, all_of};
-ghost use Rattle.paper.specs.Base.{slot, stream, ppa_numbers};
+ghost use Rattle.paper.specs.Base.{stream_total, slot, stream, ppa_numbers};
 ghost use Rattle.paper.specs.Sound.{every, unbound, open_tests, sound_slot, listeners_of, is_alone, remembers_openings, sound};
 ghost use Rattle.table_image.specs.Layout.{table_of, is_state, tidy_slot, tidy_ppas, tidy, sound_image, slot_size};
-ghost use Rattle.table_image.specs.Lent.{Lent, Held, LentAt, LentPpa};
+ghost use Rattle.table_image.specs.Lent.{Held};
 ghost use Rattle.table_soundness.specs.Groups.{are_slots_tidy, is_attached_right, is_bound_right, is_count_right, open_numbers, is_single_in, are_single, is_stream_sound};
 ghost use Rattle.paper.specs.Correlations.{most_numbers};
 
 use paper::{MOST_NUMBERS, MOST_OPEN, MOST_PPAS, PpaNumber, STREAM_TOTAL, State, Stream};
 use table_image::{
-    COUNT_OFFSET, IMAGE_SIZE, MEMORY_OFFSET, NUMBERS_OFFSET, PLACE_SIZE, PLACES_OFFSET,
+    COUNT_OFFSET, IMAGE_SIZE, LentTable, MEMORY_OFFSET, NUMBERS_OFFSET, PLACE_SIZE, PLACES_OFFSET,
     PPA_COUNT_OFFSET, SLOT_SIZE, SLOTS_OFFSET, STATE_OFFSET,
 };
 
@@ -69,43 +69,42 @@ fn is_tidy(img: &[u8]) -> bool
 // ---- PPA numbers differ
 
 #[tactic(auto, using(crate::proofs::Slots::ppa_number_at))]
-fn ppa_number(img: &[u8], k: usize) -> u32
-    requires { LentPpa k img.now }
-    ensures { result ≡ get_or (ppa_numbers (table_of img.now)) k 0 }
+fn ppa_number(table: LentTable, k: usize) -> u32
+    requires { k < length (table_of table.image.now).ppas }
+    ensures { result ≡ get_or (ppa_numbers (table_of table.entry.image.now)) k 0 }
 {
-    octets::number_inside::<u32>(img, k * PLACE_SIZE + PLACES_OFFSET)
+    octets::number_inside::<u32>(table.image, k * PLACE_SIZE + PLACES_OFFSET)
 }
 
 // How often a number is that of a PPA.
-fn ppas_with(img: &[u8], n: u32) -> u32
-    requires { Lent img.now }
-    ensures { result ≡ occ n (ppa_numbers (table_of img.now)) }
+fn ppas_with(table: LentTable, n: u32) -> u32
+    ensures { result ≡ occ n (ppa_numbers (table_of table.entry.image.now)) }
 {
-    let total = usize::from(table_image::ppa_total(img));
-    (0..total).map(|k| u32::from(n == ppa_number(img, k))).sum()
+    let total = usize::from(table.ppa_total());
+    (0..total)
+        .map(|k| u32::from(n == ppa_number(table, k)))
+        .sum()
 }
 
-fn ppas_differ(img: &[u8]) -> bool
-    requires { Lent img.now }
-    ensures { result ≡ all_of (λ (p : ℕ). leb (occ p (ppa_numbers (table_of img.now))) 1) (ppa_numbers (table_of img.now)) }
+fn ppas_differ(table: LentTable) -> bool
+    ensures { result ≡ all_of (λ (p : ℕ). leb (occ p (ppa_numbers (table_of table.entry.image.now))) 1) (ppa_numbers (table_of table.entry.image.now)) }
 {
-    let total = usize::from(table_image::ppa_total(img));
-    (0..total).all(|k| ppas_with(img, ppa_number(img, k)) <= 1)
+    let total = usize::from(table.ppa_total());
+    (0..total).all(|k| ppas_with(table, ppa_number(table, k)) <= 1)
 }
 
 // ---- each stream by itself
 
 // Attached to a PPA of the table except in state 0.
 #[tactic(auto, unfolding(crate::specs::Groups::is_attached_right, paper::specs::Base::knows))]
-fn is_attached_right(img: &[u8], s: Stream) -> bool
-    requires { Lent img.now }
-    ensures { result ≡ is_attached_right (ppa_numbers (table_of img.now)) s }
+fn is_attached_right(table: LentTable, s: Stream) -> bool
+    ensures { result ≡ is_attached_right (ppa_numbers (table_of table.entry.image.now)) s }
 {
     let p = s.ppa;
     if s.state.number() == 0 {
         return p.0 == 0;
     }
-    table_lookup::knows(img, p)
+    table_lookup::knows(table, p)
 }
 
 fn is_unbound(s: Stream) -> bool
@@ -137,27 +136,25 @@ fn is_count_right(s: Stream, count: u8) -> bool
 }
 
 #[tactic(auto, using(crate::proofs::Slots::grouped))]
-fn is_open_sound(img: &[u8], i: usize) -> bool
-    requires { LentAt i img.now }
-    ensures { result ≡ every (open_tests (ppa_numbers (table_of img.now)) (slot (table_of img.now) i)) }
+fn is_open_sound(table: LentTable, i: usize) -> bool
+    requires { i < stream_total }
+    ensures { result ≡ every (open_tests (ppa_numbers (table_of table.entry.image.now)) (slot (table_of table.entry.image.now) i)) }
 {
-    let s = table_image::load_stream(img, i);
-    is_attached_right(img, s)
-        && is_bound_right(s)
-        && is_count_right(s, table_image::count_at(img, i))
+    let s = table.load_stream(i);
+    is_attached_right(table, s) && is_bound_right(s) && is_count_right(s, table.count_at(i))
 }
 
 // A closed stream holds nothing: its bytes up to the count of open numbers are zero, and so in a tidy image are the others.
 #[tactic(auto, unfolding(paper::specs::Sound::sound_slot), using(crate::proofs::Slots::closed_bytes))]
-fn is_slot_sound(img: &[u8], i: usize) -> bool
-    requires { LentAt i img.now }
-    ensures { result ≡ sound_slot (ppa_numbers (table_of img.now)) (slot (table_of img.now) i) }
+fn is_slot_sound(table: LentTable, i: usize) -> bool
+    requires { i < stream_total }
+    ensures { result ≡ sound_slot (ppa_numbers (table_of table.entry.image.now)) (slot (table_of table.entry.image.now) i) }
 {
-    if table_image::is_open(img, i) {
-        return is_open_sound(img, i);
+    if table.is_open(i) {
+        return is_open_sound(table, i);
     }
     let at = i * SLOT_SIZE + SLOTS_OFFSET;
-    octets::is_zero(&img[at..at + NUMBERS_OFFSET])
+    octets::is_zero(&table.image[at..at + NUMBERS_OFFSET])
 }
 
 // ---- no open number is 0 or occurs twice
@@ -186,76 +183,74 @@ fn are_single(numbers: &[u32]) -> bool
     (0..numbers.len()).all(|k| is_single_in(&numbers[k..], numbers[k]))
 }
 
-fn are_numbers_single(img: &[u8]) -> bool
-    requires { Lent img.now }
-    ensures { result ≡ are_single (open_numbers (table_of img.now)) }
+fn are_numbers_single(table: LentTable) -> bool
+    ensures { result ≡ are_single (open_numbers (table_of table.entry.image.now)) }
 {
     let mut numbers = [0u32; MOST_NUMBERS];
-    let total = table_numbers::open_numbers(img, &mut numbers);
+    let total = table_numbers::open_numbers(table.image, &mut numbers);
     are_single(&numbers[..total])
 }
 
 // ---- no two streams listen for one PPA and SAP
 
-fn listeners_for(img: &[u8], p: PpaNumber, sap: u32) -> u32
-    requires { Lent img.now }
-    ensures { result ≡ listeners_of (table_of img.now) p sap }
+fn listeners_for(table: LentTable, p: PpaNumber, sap: u32) -> u32
+    ensures { result ≡ listeners_of (table_of table.entry.image.now) p sap }
 {
     (0..STREAM_TOTAL)
-        .map(|i| u32::from(table_lookup::listens_at(img, p, sap, i)))
+        .map(|i| u32::from(table_lookup::listens_at(table, p, sap, i)))
         .sum()
 }
 
 #[tactic(auto, unfolding(paper::specs::Sound::is_alone))]
-fn is_alone(img: &[u8], i: usize) -> bool
-    requires { LentAt i img.now }
-    ensures { result ≡ is_alone (table_of img.now) (stream (table_of img.now) i) }
+fn is_alone(table: LentTable, i: usize) -> bool
+    requires { i < stream_total }
+    ensures { result ≡ is_alone (table_of table.entry.image.now) (stream (table_of table.entry.image.now) i) }
 {
-    if table_image::granted_at(img, i) == 0 {
+    if table.granted_at(i) == 0 {
         return true;
     }
-    let p = table_image::attached_at(img, i);
-    let sap = u32::from(table_image::sap_at(img, i));
-    listeners_for(img, p, sap) <= 1
+    let p = table.attached_at(i);
+    let sap = u32::from(table.sap_at(i));
+    listeners_for(table, p, sap) <= 1
 }
 
 // ---- the whole
 
 #[tactic(auto, unfolding(crate::specs::Groups::is_stream_sound))]
-fn is_stream_sound(img: &[u8], i: usize) -> bool
-    requires { LentAt i img.now }
-    ensures { result ≡ is_stream_sound (table_of img.now) (slot (table_of img.now) i) }
+fn is_stream_sound(table: LentTable, i: usize) -> bool
+    requires { i < stream_total }
+    ensures { result ≡ is_stream_sound (table_of table.entry.image.now) (slot (table_of table.entry.image.now) i) }
 {
-    is_slot_sound(img, i) && is_alone(img, i)
+    is_slot_sound(table, i) && is_alone(table, i)
 }
 
-fn are_streams_sound(img: &[u8]) -> bool
-    requires { Lent img.now }
-    ensures { result ≡ all_of (is_stream_sound (table_of img.now)) (table_of img.now).slots }
+fn are_streams_sound(table: LentTable) -> bool
+    ensures { result ≡ all_of (is_stream_sound (table_of table.entry.image.now)) (table_of table.entry.image.now).slots }
 {
-    (0..STREAM_TOTAL).all(|i| is_stream_sound(img, i))
+    (0..STREAM_TOTAL).all(|i| is_stream_sound(table, i))
 }
 
 // A table with an open stream remembers an opening.
 #[tactic(auto, using(crate::proofs::Slots::all_closed))]
-fn remembers_openings(img: &[u8]) -> bool
-    requires { Lent img.now }
-    ensures { result ≡ remembers_openings (table_of img.now) }
+fn remembers_openings(table: LentTable) -> bool
+    ensures { result ≡ remembers_openings (table_of table.entry.image.now) }
 {
-    table_image::remembers(img) || table_image::free_total(img) == STREAM_TOTAL as u32
+    table.remembers() || table_image::free_total(table.image) == STREAM_TOTAL as u32
 }
 
 #[tactic(auto, using(crate::proofs::Slots::sound_groups))]
-fn is_sound(img: &[u8]) -> bool
-    requires { Lent img.now }
-    ensures { result ≡ sound (table_of img.now) }
+fn is_sound(table: LentTable) -> bool
+    ensures { result ≡ sound (table_of table.entry.image.now) }
 {
-    ppas_differ(img) && are_streams_sound(img) && are_numbers_single(img) && remembers_openings(img)
+    ppas_differ(table)
+        && are_streams_sound(table)
+        && are_numbers_single(table)
+        && remembers_openings(table)
 }
 
 #[tactic(auto, unfolding(table_image::specs::Layout::sound_image), using(crate::proofs::Slots::tidy_is_lent))]
 pub fn sound_image(img: &[u8]) -> bool
     ensures { result ≡ sound_image img.now }
 {
-    is_tidy(img) && is_sound(img)
+    is_tidy(img) && is_sound(LentTable { image: img })
 }

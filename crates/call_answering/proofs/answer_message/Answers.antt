@@ -13,7 +13,7 @@ use Rattle.paper.specs.declared.Rule.{Rule}
 
 pub returns-in-Err : goal.returns-in-Err
 returns-in-Err c =
-    let t = table_of c.args.img.now in
+    let t = table_of c.args.table.image.now in
     let i = c.args.i in
     let effect = c.error_effect.ensures in
     λ r. rw c.alone.ensures (record {
@@ -21,12 +21,12 @@ returns-in-Err c =
           wrong t i r _ _ _ effect
           ∙ ap₂ (λ (n : ℕ) (q : Result Request Rule). comes state_rows t i r (sends n q)) c.code_in-code.ensures
           (sym c.in-Err.is ∙ c.asked_by.ensures);
-      fits = error_placed _ c.requires.at.within _ effect;
+      fits = error_placed _ c.requires.within _ effect;
     })
 
 pub returns-in-Ok : goal.returns-in-Ok
 returns-in-Ok c =
-    let t = table_of c.args.img.now in
+    let t = table_of c.args.table.image.now in
     let i = c.args.i in
     let answered = c.answer_request.ensures in
     λ r. record {

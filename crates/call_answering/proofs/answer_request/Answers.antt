@@ -11,9 +11,9 @@ returns-in-None c =
     let effect = c.error_effect.ensures ∙ ap (error_effect c.args.code) c.without_row-no_row.ensures in
     λ r. rw c.alone.ensures (record {
       comes =
-          no_row (table_of c.args.img.now) c.args.i r c.args.code c.args.q _ _ c.load_stream-s.ensures
+          no_row (table_of c.args.table.image.now) c.args.i r c.args.code c.args.q _ _ c.load_stream-s.ensures
           c.request_row.ensures _ c.in-None.is effect;
-      fits = error_placed _ c.requires.within _ effect;
+      fits = error_placed _ c.requires _ effect;
     })
 
 pub returns-in-Some : goal.returns-in-Some
@@ -21,7 +21,7 @@ returns-in-Some c =
     let effect = c.effect_by.ensures in
     λ r. record {
       comes =
-          by_row (table_of c.args.img.now) c.args.i r c.args.code c.args.q _ _ c.load_stream-s.ensures
+          by_row (table_of c.args.table.image.now) c.args.i r c.args.code c.args.q _ _ c.load_stream-s.ensures
           c.request_row.ensures _ _ _ c.in-Some.is c.judged_request-judged.ensures effect;
-      fits = message-placed _ c.requires.within _ _ _ _ _ effect;
+      fits = message-placed _ c.requires _ _ _ _ _ effect;
     }

@@ -24,4 +24,4 @@ returns-in-BindAck c =
 pub returns-in_default : goal.returns-in_default
 returns-in_default c =
     let a = c.args in
-    rw (not_own (mac_at (table_of a.img.now) a.i) a.reply c.in_default.not-InfoAck c.in_default.not-BindAck) (record { few = omega arith; ends = refl; stands = refl })
+    rw (not_own (mac_at (table_of a.table.image.now) a.i) a.reply c.in_default.not-InfoAck c.in_default.not-BindAck) (record { few = omega arith; ends = refl; stands = refl })

@@ -13,7 +13,7 @@ pub returns : goal.returns
 unfolding told
 returns c =
     let a = c.args in
-    let t = table_of a.img.now in
+    let t = table_of a.table.image.now in
     let orders = c.put_orders-a.ensures in
     let flush = c.put_flush_if.ensures in
     let ups = c.put_replies.ensures in

@@ -15,7 +15,7 @@ use Rattle.paper.specs.declared.Reply.{Reply}
 
 pub put_reply-requires : goal.put_reply-requires
 put_reply-requires c =
-    record { at = c.requires.at; roomy = subst (λ (u : Option Reply). most_said u ≤ length c.args.room.now) c.in-Some.is c.requires.roomy }
+    record { within = c.requires.within; roomy = subst (λ (u : Option Reply). most_said u ≤ length c.args.room.now) c.in-Some.is c.requires.roomy }
 
 pub returns-in-None : goal.returns-in-None
 unfolding ups_in
@@ -26,5 +26,5 @@ unfolding ups_in
 returns-in-Some c =
     let a = c.args in
     let r = c.in-Some.reply in
-    let record_up = up a.i r (behind_reply (mac_at (table_of a.img.now) a.i) a.r.now r) in
+    let record_up = up a.i r (behind_reply (mac_at (table_of a.table.image.now) a.i) a.r.now r) in
     rw c.in-Some.is (one_wrote record_up record_up refl c.put_reply.ensures)

@@ -29,16 +29,16 @@ handed mac m l r {n} w e =
 
 pub put_up-requires : goal.put_up-requires
 put_up-requires c =
-    let mac = mac_at (table_of c.args.img.now) c.args.i in
+    let mac = mac_at (table_of c.args.table.image.now) c.args.i in
     let m = c.args.r.now in
     let own = c.put_own_address-size.ensures in
     let tail = handed mac m (replicate most_tail 0) c.args.reply own c.behind-tail.ensures in
-    record { short = rw tail (tail_most mac (mac-length _ c.requires.at.lent.shaped _) m c.args.reply); roomy = search rules }
+    record { short = rw tail (tail_most mac (mac-length _ c.args.table.lent.shaped _) m c.args.reply); roomy = search rules }
 
 pub returns : goal.returns
 returns c =
     let a = c.args in
-    let mac = mac_at (table_of a.img.now) a.i in
+    let mac = mac_at (table_of a.table.image.now) a.i in
     let own = c.put_own_address-size.ensures in
     let tail = handed mac a.r.now (replicate most_tail 0) a.reply own c.behind-tail.ensures in
     wrote-same (ap (λ (l : List ℕ). bytes_of (up a.i a.reply l)) tail) c.put_up.ensures

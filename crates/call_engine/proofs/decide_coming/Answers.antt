@@ -1,21 +1,15 @@
 -- A message is decided by what stands in it; what else comes to a stream is the line's.
 use mathlib.Core.Path.{◌∙◌}
-use Rattle.table_image.proofs.Lending.{sound-lent}
 use Rattle.call_engine.proofs.Laws.{image_grants_few, read_whole, from_line}
 use Rattle.call_engine.proofs.decide_coming.Goals as goal
 
 pub message_to-requires : goal.message_to-requires
-message_to-requires c =
-    record {
-      lent = sound-lent c.args.img.now c.requires.is_sound;
-      whole = read_whole c.args.r.now _ (c.requires.read ∙ c.in-Message.is);
-    }
+message_to-requires c = read_whole c.args.r.now _ (c.requires.read ∙ c.in-Message.is)
 
 pub occur-requires : goal.occur-requires
 occur-requires c =
-    let img = c.args.img.now in
+    let img = c.args.table.image.now in
     record {
-      lent = sound-lent img c.requires.is_sound;
       granted = image_grants_few img c.requires.is_sound;
       line = from_line c.args.q c.requires.comes c.in_default.not-Message;
     }

@@ -53,9 +53,9 @@ pub answer_message-requires : goal.answer_message-requires
 answer_message-requires c =
     let opened = sym c.is_open.ensures ∙ c.if-not-is_open.false in
     let fits : c.args.l ≤ block_size = c.if-l-gt-BLOCK_SIZE.false in
-    let size = ap length c.message_in.ensures ∙ part_length c.args.r.now head_size c.args.l (omega (arith, c.requires.whole, fits)) in
+    let size = ap length c.message_in.ensures ∙ part_length c.args.r.now head_size c.args.l (omega (arith, c.requires, fits)) in
     record {
-      at = record { within = open_within (table_of c.args.img.now) c.requires.lent.shaped c.args.i opened; lent = c.requires.lent };
+      within = open_within (table_of c.args.table.image.now) c.args.table.lent.shaped c.args.i opened;
       whole = record { coded = omega (arith, size, c.if-l-lt4.false); short = omega (arith, size, fits) };
     }
 
@@ -68,7 +68,7 @@ returns c =
     record {
       comes =
           answered.comes
-          ∙ ap (λ (m : List ℕ). comes state_rows (table_of a.img.now) a.i r (sends (code_in m) (asked_by m))) c.message_in.ensures
+          ∙ ap (λ (m : List ℕ). comes state_rows (table_of a.table.image.now) a.i r (sends (code_in m) (asked_by m))) c.message_in.ensures
           ∙ sym (rw (
             ap not (sym c.is_open.ensures ∙ c.if-not-is_open.false),
             le-ltb _ _ c.if-l-gt-BLOCK_SIZE.false,

@@ -36,10 +36,16 @@ close_stream-requires c =
       roomy = subst (λ (q : Input). room_for q ≤ length c.args.room.now) c.in-Close.is c.requires.roomy;
     }
 
+-- a sound image is lent to be read
+pub invariant_of-show : goal.invariant_of-show
+invariant_of-show c = record { lent = sound-lent c.args.img.now c.requires.is_sound }
+
+pub invariant_of-decide_coming : goal.invariant_of-decide_coming
+invariant_of-decide_coming c = record { lent = sound-lent c.args.img.now c.requires.is_sound }
+
 pub show-requires : goal.show-requires
 show-requires c =
     record {
-      lent = sound-lent c.args.img.now c.requires.is_sound;
       whole = read_whole c.args.r.now _ (c.requires.read ∙ c.in-Frame.is);
       roomy = subst (λ (q : Input). room_for q ≤ length c.args.room.now) c.in-Frame.is c.requires.roomy;
     }

@@ -31,7 +31,7 @@ returns-then-not-is_called c =
 pub returns-then-i-ge-STREAM_TOTAL : goal.returns-then-i-ge-STREAM_TOTAL
 unfolding arrives is_listened_for ◌⇒◌∣◌
 returns-then-i-ge-STREAM_TOTAL c =
-    let e = c.listener-i.ensures ∙ ap (listener (table_of c.args.img.now) c.args.p) c.from.ensures in
+    let e = c.listener-i.ensures ∙ ap (listener (table_of c.args.table.image.now) c.args.p) c.from.ensures in
     record {
       comes =
           rw (
@@ -45,7 +45,7 @@ returns-then-i-ge-STREAM_TOTAL c =
 pub returns : goal.returns
 unfolding arrives is_listened_for ◌⇒◌∣◌
 returns c =
-    let t = table_of c.args.img.now in
+    let t = table_of c.args.table.image.now in
     let e = c.listener-i.ensures ∙ ap (listener t c.args.p) c.from.ensures in
     record {
       comes =

@@ -26,7 +26,7 @@ returns-in_default c =
     let arm = c.in_default in
     record {
       comes =
-          not-read (table_of c.args.img.now) c.args.r.now c.args.q arm.not-CallArrives arm.not-PeerAccepted arm.not-PeerGone arm.not-CallWithdrawn
-          arm.not-PeerReset arm.not-ResetConfirmed c.requires.line;
+          not-read (table_of c.args.table.image.now) c.args.r.now c.args.q arm.not-CallArrives arm.not-PeerAccepted arm.not-PeerGone arm.not-CallWithdrawn
+          arm.not-PeerReset arm.not-ResetConfirmed c.requires;
       fits = tt;
     }

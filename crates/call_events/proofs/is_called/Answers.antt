@@ -14,4 +14,4 @@ pub returns : goal.returns
 returns c =
     let a = c.args in
     c.has_mac.ensures
-    ∙ ap (λ (l : List ℕ). same_bytes l (mac_of (table_of a.img.now) a.p)) (c.part_at.ensures ∙ sym (take-take mac_size address_size (drop 5 a.r.now) (omega arith)))
+    ∙ ap (λ (l : List ℕ). same_bytes l (mac_of (table_of a.table.image.now) a.p)) (c.part_at.ensures ∙ sym (take-take mac_size address_size (drop 5 a.r.now) (omega arith)))

@@ -15,5 +15,5 @@ pub returns : goal.returns
 unfolding of_open ◌⇒◌∣◌
 returns c =
     let found = c.is_open.ensures in
-    let within = open_within (table_of c.args.img.now) c.requires.shaped c.args.i (sym found ∙ c.if-not-is_open.false) in
+    let within = open_within (table_of c.args.table.image.now) c.args.table.lent.shaped c.args.i (sym found ∙ c.if-not-is_open.false) in
     λ r. record { comes = rw (ap not (sym found ∙ c.if-not-is_open.false)); fits = within }

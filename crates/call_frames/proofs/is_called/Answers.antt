@@ -14,5 +14,5 @@ pub returns : goal.returns
 returns c =
     let a = c.args in
     c.has_mac.ensures
-    ∙ ap (λ (l : List ℕ). same_bytes l (mac_of (table_of a.img.now) a.f.ppa))
+    ∙ ap (λ (l : List ℕ). same_bytes l (mac_of (table_of a.table.image.now) a.f.ppa))
     (c.part_at.ensures ∙ sym (take-take mac_size (length_of a.f.form) (drop 6 a.r.now) (form_least a.f.form)))

@@ -13,19 +13,19 @@ use Rattle.call_frames.proofs.is_shown.Goals as goal
 pub returns-then-sap_at-f : goal.returns-then-sap_at-f
 returns-then-sap_at-f c =
     let a = c.args in
-    other_sap a.f (slot (table_of a.img.now) a.i) (rw (← c.sap_at.ensures) (ne_eqb _ _ c.if-sap_at-f.true))
+    other_sap a.f (slot (table_of a.table.image.now) a.i) (rw (← c.sap_at.ensures) (ne_eqb _ _ c.if-sap_at-f.true))
 
 pub returns-then-not-is_open : goal.returns-then-not-is_open
 unfolding is_shown
 returns-then-not-is_open c =
     let a = c.args in
-    let x = slot (table_of a.img.now) a.i in
+    let x = slot (table_of a.table.image.now) a.i in
     ap (λ (b : Bool). both b (is_for state_rows a.f x.stream)) (sym (c.if-not-is_open.true) ∙ c.is_open.ensures)
 
 pub returns : goal.returns
 unfolding is_shown
 returns c =
     let a = c.args in
-    let x = slot (table_of a.img.now) a.i in
+    let x = slot (table_of a.table.image.now) a.i in
     c.is_for.ensures ∙ ap (is_for state_rows a.f) c.load_stream.ensures
     ∙ ap (λ (b : Bool). both b (is_for state_rows a.f x.stream)) (sym (c.if-not-is_open.false) ∙ c.is_open.ensures)

@@ -20,7 +20,7 @@ loop-i-init c = record { few = omega arith; long = refl; wrote = record { ends =
 pub loop-i-preserved : goal.loop-i-preserved
 loop-i-preserved c =
     let a = c.args in
-    let t = table_of a.img.now in
+    let t = table_of a.table.image.now in
     let r = a.r.now in
     let f = a.f in
     let inv = c.loop-i.invariant in
@@ -42,5 +42,5 @@ pub returns : goal.returns
 returns c =
     let a = c.args in
     let all : c.loop-i.i ≡ stream_total = omega (arith, c.loop-i.auto.i-end, c.loop-i-test.false) in
-    wrote-same (ap (λ (k : ℕ). all_bytes (indications a.r.now a.f (shown_below state_rows (table_of a.img.now) a.f k))) all)
+    wrote-same (ap (λ (k : ℕ). all_bytes (indications a.r.now a.f (shown_below state_rows (table_of a.table.image.now) a.f k))) all)
     (wrote-most (omega (arith, c.loop-i.invariant.few, all)) c.loop-i.invariant.wrote)

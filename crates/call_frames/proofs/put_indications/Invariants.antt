@@ -19,4 +19,4 @@ pub record Turned (t : Table) (r : List ℕ) (f : Frame) (room₀ room : List �
   pub wrote : Wrote (all_bytes (indications r f (shown_below state_rows t f i))) 0 n room₀ room
 
 abbrev pub invariant-loop-i : goal.invariant-loop-i
-invariant-loop-i l = Turned (table_of l.img) l.r l.f l.initial.room l.room l.n l.i
+invariant-loop-i l = Turned (table_of l.table.image.now) l.r l.f l.initial.room l.room l.n l.i

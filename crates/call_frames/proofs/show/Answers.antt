@@ -19,7 +19,7 @@ pub returns-then-f-gt-MOST_DATA : goal.returns-then-f-gt-MOST_DATA
 unfolding frames
 returns-then-f-gt-MOST_DATA c =
     let a = c.args in
-    let img = a.img.now in
+    let img = a.table.image.now in
     let room = a.room.now in
     where_true img room _ _ (lt-ltb _ _ c.if-f-gt-MOST_DATA.true) (leaves_refused img room (table_of img) over_long _ (omega arith) refl)
 
@@ -27,7 +27,7 @@ pub returns-then-not-knows : goal.returns-then-not-knows
 unfolding frames
 returns-then-not-knows c =
     let a = c.args in
-    let img = a.img.now in
+    let img = a.table.image.now in
     let room = a.room.now in
     where_false img room _ _ (le-ltb _ _ c.if-f-gt-MOST_DATA.false)
     (where_true img room _ _ (ap not (sym c.knows.ensures ∙ c.if-not-knows.true))
@@ -36,7 +36,7 @@ returns-then-not-knows c =
 pub returns-then-not-is_called : goal.returns-then-not-is_called
 unfolding frames
 returns-then-not-is_called c =
-    let img = c.args.img.now in
+    let img = c.args.table.image.now in
     let room = c.args.room.now in
     let t = table_of img in
     let r = c.args.r.now in
@@ -45,12 +45,12 @@ returns-then-not-is_called c =
     where_false img room _ _ (le-ltb _ _ c.if-f-gt-MOST_DATA.false)
     (where_false img room _ _ (ap not (sym c.knows.ensures ∙ c.if-not-knows.false))
     (leaves_served img room t (indications r f (shown_to state_rows t r f)) 0 img room
-    (wrote_as (ap (λ (l : List ℕ). all_bytes (indications r f l)) nobody) (record { ends = refl; stands = refl })) (sym c.requires.lent.same)))
+    (wrote_as (ap (λ (l : List ℕ). all_bytes (indications r f l)) nobody) (record { ends = refl; stands = refl })) (sym c.args.table.lent.same)))
 
 pub returns : goal.returns
 unfolding frames
 returns c =
-    let img = c.args.img.now in
+    let img = c.args.table.image.now in
     let room = c.args.room.now in
     let t = table_of img in
     let r = c.args.r.now in
@@ -59,4 +59,4 @@ returns c =
     where_false img room _ _ (le-ltb _ _ c.if-f-gt-MOST_DATA.false)
     (where_false img room _ _ (ap not (sym c.knows.ensures ∙ c.if-not-knows.false))
     (leaves_served img room t (indications r f (shown_to state_rows t r f)) _ img _
-    (wrote_as (ap (λ (l : List ℕ). all_bytes (indications r f l)) some) (wrote_of c.put_indications-written.ensures)) (sym c.requires.lent.same)))
+    (wrote_as (ap (λ (l : List ℕ). all_bytes (indications r f l)) some) (wrote_of c.put_indications-written.ensures)) (sym c.args.table.lent.same)))

@@ -19,7 +19,7 @@ pub put_goodbyes-written-requires : goal.put_goodbyes-written-requires
 put_goodbyes-written-requires c =
     let opened = sym c.is_open.ensures ∙ c.if-not-is_open.false in
     let within = open_within (table_of c.args.img.now) c.requires.lent.shaped c.args.i opened in
-    record { at = record { within = within; lent = c.requires.lent }; roomy = c.requires.roomy }
+    record { within = within; roomy = c.requires.roomy }
 
 pub close_slot-requires : goal.close_slot-requires
 close_slot-requires c =

@@ -20,14 +20,14 @@ use Rattle.call_openings.proofs.put_drops.Goals as goal
 
 pub loop-k-init : goal.loop-k-init
 loop-k-init c =
-    (omega (arith, c.count_at-count.ensures, c.requires.at.lent.shaped.eight c.args.i), refl, refl)
+    (omega (arith, c.count_at-count.ensures, c.args.table.lent.shaped.eight c.args.i), refl, refl)
 
 pub loop-k-preserved : goal.loop-k-preserved
 loop-k-preserved c =
     let call = c.number_at-c in
     let a = c.args in
     let count = c.count_at-count in
-    let w : List ℕ = waiting (table_of a.img.now) a.i in
+    let w : List ℕ = waiting (table_of a.table.image.now) a.i in
     let old : List ℕ = all_bytes (map (goodbye a.i) (take c.loop-k.k w)) in
     let size : length old ≡ c.loop-k.k * disconnect_size =
     omega (arith, goodbyes-long a.i (take c.loop-k.k w), length-take-le c.loop-k.k w (omega (arith, count.ensures))) in (
@@ -42,7 +42,7 @@ pub returns : goal.returns
 returns c =
     let a = c.args in
     let count = c.count_at-count in
-    let w : List ℕ = waiting (table_of a.img.now) a.i in
+    let w : List ℕ = waiting (table_of a.table.image.now) a.i in
     let bytes : List ℕ → List ℕ = λ v. all_bytes (map (goodbye a.i) v) in
     let all = take_all c.loop-k.k w (omega (arith, count.ensures)) in
     wrote-most (omega arith)

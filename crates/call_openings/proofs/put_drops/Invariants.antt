@@ -12,4 +12,4 @@ use Rattle.paper.specs.Saps.{most_open}
 use Rattle.call_openings.proofs.put_drops.Given as goal
 
 abbrev pub invariant-loop-k : goal.invariant-loop-k
-invariant-loop-k l = (l.count ≤ most_open) × (length l.room ≡ length l.initial.room) × (l.room ≡ over (all_bytes (map (goodbye l.i) (take l.k (waiting (table_of l.img) l.i)))) l.initial.room)
+invariant-loop-k l = (l.count ≤ most_open) × (length l.room ≡ length l.initial.room) × (l.room ≡ over (all_bytes (map (goodbye l.i) (take l.k (waiting (table_of l.table.image.now) l.i)))) l.initial.room)

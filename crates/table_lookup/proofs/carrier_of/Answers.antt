@@ -21,14 +21,10 @@ overflow_sub-j c =
 
 -- the other stream is one of the 16
 pub load_stream-requires : goal.load_stream-requires
-load_stream-requires c =
-    record {
-      within = open_within (table_of c.args.img.now) c.requires.shaped _ (sym c.is_open.ensures ∙ c.if-is_open.true);
-      held = c.requires.held;
-    }
+load_stream-requires c = open_within (table_of c.args.table.image.now) c.args.table.lent.shaped _ (sym c.is_open.ensures ∙ c.if-is_open.true)
 
 pub overflow_cast-result : goal.overflow_cast-result
-overflow_cast-result c = omega (arith, open_within (table_of c.args.img.now) c.requires.shaped _ (sym c.is_open.ensures ∙ c.if-is_open.true))
+overflow_cast-result c = omega (arith, open_within (table_of c.args.table.image.now) c.args.table.lent.shaped _ (sym c.is_open.ensures ∙ c.if-is_open.true))
 
 pub returns-then-is_open : goal.returns-then-is_open
 unfolding carrier_of ◌⇒◌∣◌

@@ -7,4 +7,4 @@ use Rattle.table_lookup.proofs.is_ppa.Goals as goal
 pub returns : goal.returns
 unfolding ppa_at ppa_from
 returns c =
-    rw (c.number_inside.ensures, add-sub_cancel_left, ppa-place c.args.img.now c.args.k c.requires.placed)
+    rw (c.number_inside.ensures, add-sub_cancel_left, ppa-place c.args.table.image.now c.args.k c.requires)

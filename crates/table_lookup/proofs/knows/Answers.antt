@@ -14,6 +14,6 @@ pub returns : goal.returns
 unfolding knows
 returns c =
     let a = c.args in
-    let t = table_of a.img.now in
+    let t = table_of a.table.image.now in
     let f : Ppa → ℕ = λ q. q.number.0 in
     rw (c.is_some.ensures, c.ppa_place.ensures, is_there (λ (q : Ppa). eqb q.number.0 a.p.0) t.ppas, ← first-map f a.p.0 t.ppas, ← length-map t.ppas f) (sym (has_first a.p.0 (ppa_numbers t)))

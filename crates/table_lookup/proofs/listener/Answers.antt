@@ -11,8 +11,8 @@ use Rattle.table_lookup.proofs.listener.Goals as goal
 pub returns : goal.returns
 unfolding listener
 returns c =
-    let l = (table_of c.args.img.now).slots in
+    let l = (table_of c.args.table.image.now).slots in
     let f : Slot → Bool = λ x. listens c.args.p c.args.sap x.stream in
-    let h = found f closed l _ _ (sym c.requires.shaped.sixteen)
+    let h = found f closed l _ _ (sym c.args.table.lent.shaped.sixteen)
     (first_from_Range _ _ _ _ (λ k. f (get_or l k closed) ≡ true) (λ k. f (get_or l k closed) ≡ false) c.find.ensures.ran (λ x q k. search rules) (λ x q k. search rules)) in
-    rw (c.unwrap_or.ensures, h, ← c.requires.shaped.sixteen) (first-or_length f l)
+    rw (c.unwrap_or.ensures, h, ← c.args.table.lent.shaped.sixteen) (first-or_length f l)

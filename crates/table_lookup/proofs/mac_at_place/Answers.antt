@@ -12,9 +12,9 @@ use Rattle.table_lookup.proofs.mac_at_place.Goals as goal
 pub returns : goal.returns
 unfolding ppa_at ppa_from
 returns c =
-    let img = c.args.img.now in
+    let img = c.args.table.image.now in
     let at = ppa_base c.args.k in
-    let n = part_length img at place_size (omega (arith, c.requires.placed, c.requires.lent.held.long, c.requires.lent.shaped.few)) in
+    let n = part_length img at place_size (omega (arith, c.requires, c.args.table.lent.held.long, c.args.table.lent.shaped.few)) in
     let place = ppa_part img c.args.k in
-    rw (ppa-place img c.args.k c.requires.placed, c.put_bytes.ensures, add-sub_cancel_left)
+    rw (ppa-place img c.args.k c.requires, c.put_bytes.ensures, add-sub_cancel_left)
     (paste-whole (replicate mac_size 0) (part place mac_offset mac_size) (omega (arith, n, part_length place mac_offset mac_size (omega (arith, n)))))

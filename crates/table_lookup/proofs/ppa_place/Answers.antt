@@ -11,7 +11,7 @@ use Rattle.table_lookup.proofs.ppa_place.Goals as goal
 
 pub returns : goal.returns
 returns c =
-    let l = (table_of c.args.img.now).ppas in
+    let l = (table_of c.args.table.image.now).ppas in
     let f : Ppa → Bool = λ q. eqb q.number.0 c.args.p.0 in
     found f no_ppa l _ _ c.ppa_total.ensures
     (first_from_Range _ _ _ _ (λ k. f (get_or l k no_ppa) ≡ true) (λ k. f (get_or l k no_ppa) ≡ false) c.find.ensures.ran (λ x q k. search rules) (λ x q k. search rules))

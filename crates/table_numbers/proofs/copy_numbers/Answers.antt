@@ -9,6 +9,6 @@ pub loop-k-preserved : goal.loop-k-preserved
 loop-k-preserved c =
     let l = c.loop-k in
     let a = c.args in
-    let w = waiting (table_of a.img.now) a.i in
+    let w = waiting (table_of a.table.image.now) a.i in
     let h : l.k < length w = omega arith in
     rw (c.number_at.ensures, l.invariant, add-one) (paste-suc a.dst.now a.at w l.k 0 (omega arith) h)

@@ -6,4 +6,4 @@ use Rattle.table_image.specs.Layout.{table_of}
 use Rattle.table_numbers.proofs.copy_numbers.Given as goal
 
 abbrev pub invariant-loop-k : goal.invariant-loop-k
-invariant-loop-k l = l.dst ≡ paste l.initial.dst l.at (waiting (table_of l.img) l.i) l.k
+invariant-loop-k l = l.dst ≡ paste l.initial.dst l.at (waiting (table_of l.table.image.now) l.i) l.k

@@ -6,4 +6,4 @@ use Rattle.table_numbers.proofs.number_at.Goals as goal
 pub returns : goal.returns
 returns c =
     let a = c.args in
-    ap (λ (v : ℕ). record { 0 = v }) (c.number_inside.ensures ∙ number_at a.img.now c.requires.at.lent a.i c.requires.at.within a.k c.requires.placed)
+    ap (λ (v : ℕ). record { 0 = v }) (c.number_inside.ensures ∙ number_at a.table.image.now c.args.table.lent a.i c.requires.within a.k c.requires.placed)

@@ -8,7 +8,7 @@ use Rattle.table_numbers.proofs.number_place.Goals as goal
 
 pub returns : goal.returns
 returns c =
-    let w = waiting (table_of c.args.img.now) c.args.i in
+    let w = waiting (table_of c.args.table.image.now) c.args.i in
     let n = c.args.n.0 in
     found (eqb n) 0 w _ _ c.count_at.ensures
     (first_from_Range _ _ _ _ (λ k. eqb n (get_or w k 0) ≡ true) (λ k. eqb n (get_or w k 0) ≡ false) c.find.ensures.ran (λ x q k. search rules) (λ x q k. search rules))

@@ -10,7 +10,7 @@ use Rattle.table_numbers.proofs.numbers_of.Goals as goal
 pub returns : goal.returns
 returns c =
     let a = c.args in
-    let w = waiting (table_of a.img.now) a.i in
-    let n : length (waiting_bytes w) ≡ 1 + numbers_size = waiting-length w (c.requires.lent.shaped.eight a.i) in
-    rw (c.put_bytes.ensures, add-sub_cancel_left, numbers-part a.img.now c.requires.lent a.i c.requires.within)
+    let w = waiting (table_of a.table.image.now) a.i in
+    let n : length (waiting_bytes w) ≡ 1 + numbers_size = waiting-length w (c.args.table.lent.shaped.eight a.i) in
+    rw (c.put_bytes.ensures, add-sub_cancel_left, numbers-part a.table.image.now c.args.table.lent a.i c.requires)
     (paste-whole (replicate (1 + numbers_size) 0) (waiting_bytes w) (omega arith))

@@ -9,7 +9,7 @@ use Rattle.table_numbers.proofs.occurs_on.Goals as goal
 
 pub returns : goal.returns
 returns c =
-    let w = waiting (table_of c.args.img.now) c.args.i in
+    let w = waiting (table_of c.args.table.image.now) c.args.i in
     let n = c.args.n in
     count_from_yields_List _ _ c.count.ensures.ran
     (YieldsList-from_filter _ (λ (k : ℕ). eqb n (get_or w k 0)) (YieldsList-from_range 0 _ (length w) c.filter.ensures.source (omega arith)) c.filter.ensures.closure (λ x r q k. search rules))

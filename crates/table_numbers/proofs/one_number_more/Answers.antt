@@ -7,5 +7,5 @@ use Rattle.table_numbers.proofs.one_number_more.Goals as goal
 pub returns : goal.returns
 returns c =
     let a = c.args in
-    let w = waiting (table_of a.img.now) a.i in
+    let w = waiting (table_of a.table.image.now) a.i in
     rw (c.put_number.ensures, c.numbers_of-bytes.ensures, c.count_at-count.ensures) (more_bytes w a.n c.requires.place)

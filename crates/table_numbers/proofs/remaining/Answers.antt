@@ -16,10 +16,10 @@ one_fewer t i n h = length_without n.0 (waiting t i) (ltb-true 0 (occ n.0 (waiti
 pub returns-then-is_waiting : goal.returns-then-is_waiting
 returns-then-is_waiting c =
     let a = c.args in
-    omega (arith, c.count_at-count.ensures, one_fewer (table_of a.img.now) a.i a.n (sym c.is_waiting.ensures ∙ c.if-is_waiting.true))
+    omega (arith, c.count_at-count.ensures, one_fewer (table_of a.table.image.now) a.i a.n (sym c.is_waiting.ensures ∙ c.if-is_waiting.true))
 
 pub returns-else-is_waiting : goal.returns-else-is_waiting
 returns-else-is_waiting c =
     let a = c.args in
     c.count_at-count.ensures
-    ∙ ap length (sym (without_none a.n.0 (waiting (table_of a.img.now) a.i) (sym c.is_waiting.ensures ∙ c.if-is_waiting.false)))
+    ∙ ap length (sym (without_none a.n.0 (waiting (table_of a.table.image.now) a.i) (sym c.is_waiting.ensures ∙ c.if-is_waiting.false)))

@@ -13,6 +13,6 @@ use Rattle.table_soundness.proofs.are_streams_sound.Goals as goal
 
 pub returns : goal.returns
 returns c =
-    let t = table_of c.args.img.now in
+    let t = table_of c.args.table.image.now in
     all_from_yields_List (λ i. is_stream_sound t (slot t i)) _ _ _ c.all.ensures.ran (YieldsList-from_range 0 stream_total stream_total (cc) (omega arith)) (λ x b q k. search (rules, tests))
-    ∙ all_places closed t.slots stream_total c.requires.shaped.sixteen (is_stream_sound t)
+    ∙ all_places closed t.slots stream_total c.args.table.lent.shaped.sixteen (is_stream_sound t)

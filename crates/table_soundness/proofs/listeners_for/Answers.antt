@@ -17,17 +17,17 @@ use Rattle.table_soundness.proofs.listeners_for.Goals as goal
 pub sum-requires-clause-fits : goal.sum-requires-clause-fits
 sum-requires-clause-fits c =
     let a = c.args in
-    let t = table_of a.img.now in
+    let t = table_of a.table.image.now in
     let heard : Slot → Bool = λ x. listens a.p a.sap x.stream in
     let at : ℕ → ℕ = λ i. one_if (heard (slot t i)) in
     fits_by_from_yields_list at (range_with_len 0 stream_total) _ _ (YieldsList-from_map _ at (YieldsList-from_range 0 stream_total stream_total c.map.ensures.source (omega arith)) c.map.ensures.closure (λ x r q k. search rules))
-    (omega (arith, passed_most closed t.slots stream_total c.requires.shaped.sixteen heard))
+    (omega (arith, passed_most closed t.slots stream_total c.args.table.lent.shaped.sixteen heard))
 
 pub returns : goal.returns
 returns c =
     let a = c.args in
-    let t = table_of a.img.now in
+    let t = table_of a.table.image.now in
     let heard : Slot → ℕ = λ x. one_if (listens a.p a.sap x.stream) in
     let at : ℕ → ℕ = λ i. heard (slot t i) in
     sum_by_from_yields_List at (range_with_len 0 stream_total) _ _ c.sum.ensures.ran (YieldsList-from_map _ at (YieldsList-from_range 0 stream_total stream_total c.map.ensures.source (omega arith)) c.map.ensures.closure (λ x r q k. search rules))
-    ∙ summed_places closed t.slots stream_total c.requires.shaped.sixteen heard
+    ∙ summed_places closed t.slots stream_total c.args.table.lent.shaped.sixteen heard

@@ -18,7 +18,7 @@ use Rattle.table_soundness.proofs.ppas_differ.Goals as goal
 
 pub returns : goal.returns
 returns c =
-    let t = table_of c.args.img.now in
+    let t = table_of c.args.table.image.now in
     let ppas = ppa_numbers t in
     let once : ℕ → Bool = λ p. leb (occ p ppas) 1 in
     all_from_yields_List (λ k. once (get_or ppas k 0)) _ _ _ c.all.ensures.ran (YieldsList-from_range 0 c.from-total.result _ (cc) (omega arith)) (λ x b q k. search (rules, tests))

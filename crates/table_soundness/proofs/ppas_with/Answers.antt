@@ -19,17 +19,17 @@ use Rattle.table_soundness.proofs.ppas_with.Goals as goal
 pub sum-requires-clause-fits : goal.sum-requires-clause-fits
 sum-requires-clause-fits c =
     let n = c.args.n in
-    let t = table_of c.args.img.now in
+    let t = table_of c.args.table.image.now in
     let ppas = ppa_numbers t in
     let total = c.from-total.result in
     let at : ℕ → ℕ = λ k. one_if (eqb n (get_or ppas k 0)) in
     fits_by_from_yields_list at (range_with_len 0 total) _ _ (YieldsList-from_map _ at (YieldsList-from_range 0 total total c.map.ensures.source (omega arith)) c.map.ensures.closure (λ x r q k. search rules))
-    (omega (arith, c.requires.shaped.few, passed_most 0 ppas total (ppas_many t ∙ sym c.ppa_total.ensures ∙ sym c.from-total.ensures) (eqb n)))
+    (omega (arith, c.args.table.lent.shaped.few, passed_most 0 ppas total (ppas_many t ∙ sym c.ppa_total.ensures ∙ sym c.from-total.ensures) (eqb n)))
 
 pub returns : goal.returns
 returns c =
     let n = c.args.n in
-    let t = table_of c.args.img.now in
+    let t = table_of c.args.table.image.now in
     let ppas = ppa_numbers t in
     let total = c.from-total.result in
     let at : ℕ → ℕ = λ k. one_if (eqb n (get_or ppas k 0)) in
