@@ -19,7 +19,7 @@ ghost use Rattle.call_events.specs.DueRow.{due_row};
 ghost use Rattle.call_events.specs.Bringing.{RightlyBrought, is_of_line};
 
 use call_outcomes::{Deed, Refusal};
-use paper::{Correlation, Event, Input, MAC_SIZE, PpaNumber, STREAM_TOTAL, StateRow, Stream};
+use paper::{Correlation, Event, Input, MAC_SIZE, PpaNumber, StateRow, Stream};
 use table_image::LentTable;
 
 // ---- the row by which an event may come
@@ -110,10 +110,9 @@ fn arrives(table: LentTable, p: PpaNumber, sap: u8, r: &[u8]) -> Result<Brought,
     if !is_called(table, p, r) {
         return Err(Refusal::NobodyThere);
     }
-    let i = table_lookup::listener(table, p, u32::from(sap));
-    if STREAM_TOTAL <= i {
+    let Some(i) = table_lookup::listener(table, p, u32::from(sap)) else {
         return Err(Refusal::NobodyThere);
-    }
+    };
     let n = table_numbers::next_number(table.image);
     Ok(Brought {
         stream: i as u8,

@@ -7,13 +7,14 @@ use mathlib.Core.Bool.{Bool, true, false, cond}
 use mathlib.Core.List.{List, [], ◌∷◌, map}
 use lib.ListN.{length, get_or}
 use lib.Dec.{eqb, ltb}
-use borrow.Author.Tests.{lt-ltb, le-ltb, ltb-false}
-use Rattle.std.specs.Prelude.{Option, Some, None, is_some, unwrap_or, position, MatchOption}
+use borrow.Author.Tests.{lt-ltb, le-ltb, ltb-true, ltb-false}
+use Rattle.std.specs.Prelude.{Option, Some, None, is_some, unwrap_or, position, MatchOption, IfSome}
 use Rattle.std.specs.List.{filter, position_or_len, range_with_len, sum_by}
 use Rattle.std.proofs.lemmas.List.FromFn.{fill_by_all}
 use Rattle.std.proofs.lemmas.List.Recursion.{is_count_by, is_position_or_len, is_sum_by}
 use Rattle.std.proofs.lemmas.List.Sums.{length-filter, position_or_len_is}
 use Rattle.ledger.specs.Choice.{pick}
+use Rattle.ledger.specs.Place.{PlaceOf}
 use Rattle.ledger.specs.Tally.{one_if, occ, has, sum_of, first_of}
 use Rattle.ledger.proofs.Searches.{first-end, has_first}
 
@@ -36,6 +37,11 @@ found f d l n None e none =
     rw (position_or_len_is f l (length l) d (omega arith) (λ k h. none k (omega arith) (omega arith)) (λ h. absurd (omega arith)), le-ltb (length l) (length l) (omega arith))
 found f d l n (Some i) e m = rw (position_or_len_is f l i d (omega arith) (λ k h. m.3 k (omega arith) h) (λ h. m.2), lt-ltb i (length l) (omega arith))
 
+-- a number tells whether there is one
+pub is_place : (most n : ℕ) (r : Option ℕ) → PlaceOf most n r → is_some r ≡ ltb n most
+is_place most n None p = sym (le-ltb n most (omega (arith, p.is)))
+is_place most n (Some i) p = sym (lt-ltb n most (omega (arith, p.is, p.within)))
+
 pub is_there : {A : Type 0} (f : A → Bool) (l : List A) → is_some (position f l) ≡ ltb (first_of f l) (length l)
 is_there f l = rw (first-place f l) (go (ltb (position_or_len f l) (length l)))
   where
@@ -53,6 +59,14 @@ first-or_length f l = rw (first-place f l) (go (ltb (position_or_len f l) (lengt
     go : (b : Bool) → ltb (position_or_len f l) (length l) ≡ b → unwrap_or (cond b (Some (position_or_len f l)) None) (length l) ≡ position_or_len f l
     go true e = refl
     go false e = omega (arith, ltb-false (position_or_len f l) (length l) e, first-place f l, first-end f l)
+
+-- so that length and the place say the same
+pub first_place : {A : Type 0} (f : A → Bool) (l : List A) → PlaceOf (length l) (first_of f l) (position f l)
+first_place f l = record { is = first-or_length f l; within = go (ltb (position_or_len f l) (length l)) refl }
+  where
+    go : (b : Bool) → ltb (position_or_len f l) (length l) ≡ b → IfSome (cond b (Some (position_or_len f l)) None) (λ (i : ℕ). i < length l)
+    go true e = ltb-true (position_or_len f l) (length l) e
+    go false e = tt
 
 -- ---- sums and counts
 

@@ -3,3 +3,4 @@ pub mod Choice
 pub mod Tally
 pub mod Lists
 pub mod Few
+pub mod Place

@@ -2,6 +2,7 @@
 #![tactic(auto)]
 
 ghost use Rattle.std.specs.Prelude.{◌<◌, ◌≡◌, length, suc, eqb, get_or, position};
+ghost use Rattle.ledger.specs.Place.{PlaceOf};
 ghost use Rattle.ledger.specs.Choice.{either};
 ghost use Rattle.octets.specs.Runs.{same_bytes};
 ghost use Rattle.paper.specs.Base.{stream_total, stream, no_ppa, knows, mac_of};
@@ -72,19 +73,17 @@ pub fn listens_at(table: LentTable, p: PpaNumber, sap: u32, i: usize) -> bool
     table.sap_at(i) as u32 == sap && 0 < table.granted_at(i) && table.attached_at(i).0 == p.0
 }
 
-// The stream that listens for a PPA and SAP; 16 where nobody does.
-pub fn listener(table: LentTable, p: PpaNumber, sap: u32) -> usize
-    ensures { result ≡ listener (table_of table.entry.image.now) p sap }
+// The stream that listens for a PPA and SAP.
+pub fn listener(table: LentTable, p: PpaNumber, sap: u32) -> Option<usize>
+    ensures { PlaceOf stream_total (listener (table_of table.entry.image.now) p sap) result }
 {
-    (0..STREAM_TOTAL)
-        .find(|&i| listens_at(table, p, sap, i))
-        .unwrap_or(STREAM_TOTAL)
+    (0..STREAM_TOTAL).find(|&i| listens_at(table, p, sap, i))
 }
 
 pub fn is_listened_for(table: LentTable, p: PpaNumber, sap: u32) -> bool
     ensures { result ≡ is_listened_for (table_of table.entry.image.now) p sap }
 {
-    listener(table, p, sap) < STREAM_TOTAL
+    listener(table, p, sap).is_some()
 }
 
 // Token 0 or one's own means this stream.

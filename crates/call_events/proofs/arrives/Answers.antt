@@ -1,11 +1,11 @@
 -- The three tests of refusal 7, in the definition's order; a call that passes them comes to the listener, with the next number.
 use Prim.Native.Nat.{ℕ}
 use native.Mathlib.Omega.{arith}
-use mathlib.Core.Path.{sym, ap, ap₂, ◌∙◌}
+use mathlib.Core.Path.{sym, ap, ap₂, subst, ◌∙◌}
 use mathlib.Core.Bool.{not}
-use lib.Dec.{ltb}
 use borrow.Author.Tests.{lt-ltb, le-ltb}
 use Rattle.ledger.specs.Choice.{◌⇒◌∣◌}
+use Rattle.ledger.specs.Place.{PlaceOf}
 use Rattle.paper.specs.Saps.{listener, is_listened_for}
 use Rattle.paper.specs.Refusals.{busy}
 use Rattle.paper.specs.StateRows.{state_rows}
@@ -28,16 +28,18 @@ returns-then-not-is_called c =
       fits = tt;
     }
 
-pub returns-then-i-ge-STREAM_TOTAL : goal.returns-then-i-ge-STREAM_TOTAL
+pub returns-in_default : goal.returns-in_default
 unfolding arrives is_listened_for ◌⇒◌∣◌
-returns-then-i-ge-STREAM_TOTAL c =
-    let e = c.listener-i.ensures ∙ ap (listener (table_of c.args.table.image.now) c.args.p) c.from.ensures in
+returns-in_default c =
+    let t = table_of c.args.table.image.now in
+    let who = ap (listener t c.args.p) c.from.ensures in
+    let none = subst (PlaceOf stream_total (listener t c.args.p c.from.result)) c.in_default.is c.listener.ensures in
     record {
       comes =
           rw (
             ap not (sym c.knows.ensures ∙ c.if-not-knows.false),
             ap not (sym c.is_called.ensures ∙ c.if-not-is_called.false),
-            ap (λ (j : ℕ). not (ltb j stream_total)) (sym e) ∙ ap not (le-ltb _ _ c.if-i-ge-STREAM_TOTAL.true),
+            ap not (le-ltb (listener t c.args.p c.args.sap) stream_total (omega (arith, who, none.is))),
           );
       fits = tt;
     }
@@ -46,14 +48,16 @@ pub returns : goal.returns
 unfolding arrives is_listened_for ◌⇒◌∣◌
 returns c =
     let t = table_of c.args.table.image.now in
-    let e = c.listener-i.ensures ∙ ap (listener t c.args.p) c.from.ensures in
+    let who = ap (listener t c.args.p) c.from.ensures in
+    let low = c.in-Some.ensures in
+    let e = low.is ∙ who in
     record {
       comes =
           ap₂ (λ (j n : ℕ). comes state_rows t j c.args.r.now (brings busy (event.Arrives (record { 0 = n })))) e c.next_number-n.ensures
           ∙ rw (
             ap not (sym c.knows.ensures ∙ c.if-not-knows.false),
             ap not (sym c.is_called.ensures ∙ c.if-not-is_called.false),
-            ap (λ (j : ℕ). not (ltb j stream_total)) (sym e) ∙ ap not (lt-ltb _ _ c.if-i-ge-STREAM_TOTAL.false),
+            ap not (lt-ltb (listener t c.args.p c.args.sap) stream_total (omega (arith, who, low.is, low.within))),
           );
-      fits = omega (arith, c.if-i-ge-STREAM_TOTAL.false);
+      fits = low.within;
     }
