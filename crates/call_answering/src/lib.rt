@@ -8,10 +8,9 @@ ghost use Rattle.paper.specs.StateRows.{state_rows};
 ghost use Rattle.paper.specs.Sight.{sends, carrier_at};
 ghost use Rattle.paper.specs.Step.{comes};
 ghost use Rattle.paper.specs.declared.Request.TheVariants as request;
-ghost use Rattle.table_image.specs.Layout.{table_of};
+ghost use Rattle.table_image.specs.LentTable.{Loaded, table_in};
 ghost use Rattle.call_outcomes.specs.Deciding.{Rightly};
 ghost use Rattle.call_answering.specs.Judging.{RightlyJudged};
-ghost use Rattle.table_image.specs.Lent.{Loaded};
 ghost use Rattle.wire_messages.specs.Whole.{Whole};
 
 use call_outcomes::Deed;
@@ -52,8 +51,8 @@ fn carrier_at(i: u8, carrier: Carrier) -> u8
 
 // 6. CONNECT_RES: its number among the open ones, how many these are, and the stream that its token names.
 fn judged_accept(table: LentTable, i: u8, s: Stream, a: ConnectResponse) -> Judgement
-    requires { Loaded s i table.image.now }
-    ensures { RightlyJudged (table_of table.entry.image.now) i (request.ConnectRes a) result }
+    requires { Loaded s i (table_in table) }
+    ensures { RightlyJudged (table_in table.entry) i (request.ConnectRes a) result }
 {
     let at = i as usize;
     let n = a.correlation;
@@ -71,8 +70,8 @@ fn judged_accept(table: LentTable, i: u8, s: Stream, a: ConnectResponse) -> Judg
 
 // 7. DISCONNECT_REQ: its number among the open ones.
 fn judged_disconnect(table: LentTable, i: u8, s: Stream, d: DisconnectRequest) -> Judgement
-    requires { Loaded s i table.image.now }
-    ensures { RightlyJudged (table_of table.entry.image.now) i (request.Disconnect d) result }
+    requires { Loaded s i (table_in table) }
+    ensures { RightlyJudged (table_in table.entry) i (request.Disconnect d) result }
 {
     let n = d.correlation;
     let waits = table_numbers::is_waiting(table, i as usize, n);
@@ -81,8 +80,8 @@ fn judged_disconnect(table: LentTable, i: u8, s: Stream, d: DisconnectRequest) -
 
 // Steps 3 to 7, and the tests of a datagram, by the request.
 fn judged_request(table: LentTable, i: u8, s: Stream, q: Request) -> Judgement
-    requires { Loaded s i table.image.now }
-    ensures { RightlyJudged (table_of table.entry.image.now) i q result }
+    requires { Loaded s i (table_in table) }
+    ensures { RightlyJudged (table_in table.entry) i q result }
 {
     match q {
         Request::Info => alone(i, Ok(Service::Inform)),
@@ -116,7 +115,7 @@ fn judged_request(table: LentTable, i: u8, s: Stream, q: Request) -> Judgement
 // came with is not asked.)
 fn answer_request(table: LentTable, i: u8, code: u32, q: Request) -> Deed
     requires { i < stream_total }
-    ensures { (r : List ℕ) → Rightly (table_of table.entry.image.now) r (Ok result) (comes state_rows (table_of table.entry.image.now) i r (sends code (Ok q))) }
+    ensures { (r : List ℕ) → Rightly (table_in table.entry) r (Ok result) (comes state_rows (table_in table.entry) i r (sends code (Ok q))) }
 {
     let s = table.load_stream(i as usize);
     match paper_rows::request_row(s, q) {
@@ -140,8 +139,8 @@ fn answer_request(table: LentTable, i: u8, code: u32, q: Request) -> Deed
 pub fn answer_message(table: LentTable, i: u8, m: &[u8]) -> Deed
     requires within { i < stream_total }
     requires whole { Whole m.now }
-    ensures { (r : List ℕ) → Rightly (table_of table.entry.image.now) r (Ok result)
-        (comes state_rows (table_of table.entry.image.now) i r (sends (code_in m.now) (asked_by m.now))) }
+    ensures { (r : List ℕ) → Rightly (table_in table.entry) r (Ok result)
+        (comes state_rows (table_in table.entry) i r (sends (code_in m.now) (asked_by m.now))) }
 {
     let code = wire_messages::code_in(m);
     match wire_messages::asked_by(m) {

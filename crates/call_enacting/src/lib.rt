@@ -6,6 +6,7 @@ ghost use Rattle.paper.specs.Base.{stream_total, slot, mac_at};
 ghost use Rattle.paper.specs.RecordsOut.{up, bytes_of, unitdata_size, all_bytes};
 ghost use Rattle.paper.specs.Effects.{named_by, orders_in, behind_reply, ups_in, told};
 ghost use Rattle.table_image.specs.Layout.{table_of};
+ghost use Rattle.table_image.specs.LentTable.{table_in};
 ghost use Rattle.call_outcomes.specs.Leaving.{left, leaving};
 ghost use Rattle.call_outcomes.specs.Deciding.{outcome_of};
 ghost use Rattle.call_outcomes.specs.Answering.{call_number};
@@ -93,7 +94,7 @@ fn put_orders(room: &mut [u8], i: u8, c: u8, r: &[u8], telling: Option<LineOrder
 // The MAC of the PPA that a stream is attached to.
 fn mac_at(table: LentTable, i: u8) -> [u8; MAC_SIZE]
     requires { i < stream_total }
-    ensures { result ≡ mac_at (table_of table.entry.image.now) i }
+    ensures { result ≡ mac_at (table_in table.entry) i }
 {
     let p = table.attached_at(i as usize);
     table_lookup::mac_of(table, p)
@@ -103,7 +104,7 @@ fn mac_at(table: LentTable, i: u8) -> [u8; MAC_SIZE]
 fn put_own_address(table: LentTable, own: &mut [u8], i: u8, reply: Reply) -> usize
     requires within { i < stream_total }
     requires roomy { most_tail ≤ length own.old }
-    ensures { WroteMost most_tail (own_behind (mac_at (table_of table.entry.image.now) i) reply) 0 result own.old own.new }
+    ensures { WroteMost most_tail (own_behind (mac_at (table_in table.entry) i) reply) 0 result own.old own.new }
 {
     match reply {
         Reply::InfoAck(s) => {
@@ -134,7 +135,7 @@ fn behind<'a>(own: &'a [u8], r: &'a [u8], reply: Reply) -> &'a [u8]
 fn put_reply(table: LentTable, room: &mut [u8], i: u8, r: &[u8], reply: Reply) -> usize
     requires within { i < stream_total }
     requires roomy { message_size ≤ length room.old }
-    ensures { WroteMost message_size (bytes_of (up i reply (behind_reply (mac_at (table_of table.entry.image.now) i) r.now reply))) 0 result room.old room.new }
+    ensures { WroteMost message_size (bytes_of (up i reply (behind_reply (mac_at (table_in table.entry) i) r.now reply))) 0 result room.old room.new }
 {
     let mut own = [0u8; MOST_TAIL];
     let size = put_own_address(table, &mut own, i, reply);
@@ -146,7 +147,7 @@ fn put_reply(table: LentTable, room: &mut [u8], i: u8, r: &[u8], reply: Reply) -
 fn put_replies(table: LentTable, room: &mut [u8], i: u8, r: &[u8], saying: Option<Reply>) -> usize
     requires within { i < stream_total }
     requires roomy { most_said saying ≤ length room.old }
-    ensures { WroteMost (most_said saying) (all_bytes (ups_in i (mac_at (table_of table.entry.image.now) i) r.now saying)) 0 result room.old room.new }
+    ensures { WroteMost (most_said saying) (all_bytes (ups_in i (mac_at (table_in table.entry) i) r.now saying)) 0 result room.old room.new }
 {
     match saying {
         None => 0,
@@ -160,7 +161,7 @@ fn put_records(table: LentTable, room: &mut [u8], i: u8, c: u8, r: &[u8], e: Eff
     requires roomy { room_size ≤ length room.old }
     requires fits { Fits e }
     ensures { WroteMost room_size
-        (all_bytes (told i c (slot (table_of table.entry.image.now) i) (mac_at (table_of table.entry.image.now) i) r.now e)) 0 result room.old room.new }
+        (all_bytes (told i c (slot (table_in table.entry) i) (mac_at (table_in table.entry) i) r.now e)) 0 result room.old room.new }
 {
     let telling = e.order;
     let saying = e.up;

@@ -7,6 +7,7 @@ ghost use Rattle.paper.specs.Room.{room_for};
 ghost use Rattle.paper.specs.StateRows.{state_rows};
 ghost use Rattle.paper.specs.Step.{of_open, message, serve_by, is_readable};
 ghost use Rattle.table_image.specs.Layout.{table_of, sound_image};
+ghost use Rattle.table_image.specs.LentTable.{table_in};
 ghost use Rattle.call_outcomes.specs.Leaving.{left, leaving, call_of};
 ghost use Rattle.call_outcomes.specs.Answering.{call_number};
 ghost use Rattle.call_outcomes.specs.Deciding.{Rightly};
@@ -31,7 +32,7 @@ fn message_in<'a>(r: &'a [u8], l: u8) -> &'a [u8]
 // A message of stream i, with n bytes of data: refusals 2, 5 and 4, then its answer.
 fn message_to(table: LentTable, i: u8, l: u8, n: u8, r: &[u8]) -> Result<Deed, Refusal>
     requires { message_size ≤ length r.now }
-    ensures { Rightly (table_of table.entry.image.now) r.now result (of_open (table_of table.entry.image.now) i (message state_rows (table_of table.entry.image.now) i l n r.now)) }
+    ensures { Rightly (table_in table.entry) r.now result (of_open (table_in table.entry) i (message state_rows (table_in table.entry) i l n r.now)) }
 {
     if !table.is_open(i as usize) {
         return Err(Refusal::NotOpen);
@@ -51,7 +52,7 @@ fn message_to(table: LentTable, i: u8, l: u8, n: u8, r: &[u8]) -> Result<Deed, R
 // Any message, any event.
 fn decide_coming(table: LentTable, r: &[u8], q: Input) -> Result<Deed, Refusal>
     requires { ToStream q table.image.now r.now }
-    ensures { Rightly (table_of table.entry.image.now) r.now result (serve_by state_rows (table_of table.entry.image.now) r.now q) }
+    ensures { Rightly (table_in table.entry) r.now result (serve_by state_rows (table_in table.entry) r.now q) }
 {
     match q {
         Input::Message(i, l, n) => message_to(table, i, l, n, r),

@@ -12,8 +12,7 @@ ghost use Rattle.paper.specs.StateRows.{state_rows};
 ghost use Rattle.paper.specs.Sight.{brings};
 ghost use Rattle.paper.specs.Decide.{is_due};
 ghost use Rattle.paper.specs.Step.{comes, of_open, arrives, serve_by};
-ghost use Rattle.table_image.specs.Layout.{table_of};
-ghost use Rattle.table_image.specs.Lent.{Loaded};
+ghost use Rattle.table_image.specs.LentTable.{Loaded, table_in};
 ghost use Rattle.call_outcomes.specs.Deciding.{Rightly};
 ghost use Rattle.call_events.specs.DueRow.{due_row};
 ghost use Rattle.call_events.specs.Bringing.{RightlyBrought, is_of_line};
@@ -26,8 +25,8 @@ use table_image::LentTable;
 
 // I: the listener has less than its granted count open. W: the number is open on that stream.
 fn is_due(table: LentTable, i: u8, s: Stream, event: Event) -> bool
-    requires { Loaded s i table.image.now }
-    ensures { result ≡ is_due (slot (table_of table.entry.image.now) i) event }
+    requires { Loaded s i (table_in table) }
+    ensures { result ≡ is_due (slot (table_in table.entry) i) event }
 {
     match event {
         Event::Arrives(_) => {
@@ -44,8 +43,8 @@ fn is_due(table: LentTable, i: u8, s: Stream, event: Event) -> bool
 
 // The stream's row for an event; none where it is not due. Stream i stands as s.
 fn row_of(table: LentTable, i: u8, s: Stream, event: Event) -> Option<StateRow>
-    requires { Loaded s i table.image.now }
-    ensures { result ≡ due_row (table_of table.entry.image.now) i event }
+    requires { Loaded s i (table_in table) }
+    ensures { result ≡ due_row (table_in table.entry) i event }
 {
     if !is_due(table, i, s, event) {
         return None;
@@ -56,9 +55,9 @@ fn row_of(table: LentTable, i: u8, s: Stream, event: Event) -> Option<StateRow>
 // An event of stream i: what its row says, or the refusal.
 fn come(table: LentTable, i: u8, refusal: Refusal, event: Event) -> Result<Deed, Refusal>
     requires within { i < stream_total }
-    requires granted { (stream (table_of table.image.now) i).granted ≤ most_open }
-    ensures { (r : List ℕ) → Rightly (table_of table.entry.image.now) r result
-        (comes state_rows (table_of table.entry.image.now) i r (brings (refusal_number refusal) event)) }
+    requires granted { (stream (table_in table) i).granted ≤ most_open }
+    ensures { (r : List ℕ) → Rightly (table_in table.entry) r result
+        (comes state_rows (table_in table.entry) i r (brings (refusal_number refusal) event)) }
 {
     let s = table.load_stream(i as usize);
     let Some(x) = row_of(table, i, s, event) else {
@@ -79,8 +78,8 @@ struct Brought {
 
 // A, D, W, R and S name their stream: 2 unless it is open, then 6 where there is no row.
 fn named(table: LentTable, i: u8, event: Event) -> Result<Brought, Refusal>
-    ensures { (r : List ℕ) → RightlyBrought (table_of table.entry.image.now) r result
-        (of_open (table_of table.entry.image.now) i (comes state_rows (table_of table.entry.image.now) i r (brings unexpected event))) }
+    ensures { (r : List ℕ) → RightlyBrought (table_in table.entry) r result
+        (of_open (table_in table.entry) i (comes state_rows (table_in table.entry) i r (brings unexpected event))) }
 {
     if !table.is_open(i as usize) {
         return Err(Refusal::NotOpen);
@@ -94,7 +93,7 @@ fn named(table: LentTable, i: u8, event: Event) -> Result<Brought, Refusal>
 
 // In the record the called address comes first, its MAC before its SAP. (One line, as of a frame, where it lies elsewhere.)
 fn is_called(table: LentTable, p: PpaNumber, r: &[u8]) -> bool
-    ensures { result ≡ same_bytes (take mac_size (called_in r.now)) (mac_of (table_of table.entry.image.now) p) }
+    ensures { result ≡ same_bytes (take mac_size (called_in r.now)) (mac_of (table_in table.entry) p) }
 {
     table_lookup::has_mac(table, p, octets::part_at(r, 5, MAC_SIZE))
 }
@@ -102,7 +101,7 @@ fn is_called(table: LentTable, p: PpaNumber, r: &[u8]) -> bool
 // I comes to its listener, with the next number: 7 unless the PPA is known and has the called MAC, and somebody listens for it
 // and the SAP; then 8 where the listener is busy.
 fn arrives(table: LentTable, p: PpaNumber, sap: u8, r: &[u8]) -> Result<Brought, Refusal>
-    ensures { RightlyBrought (table_of table.entry.image.now) r.now result (arrives state_rows (table_of table.entry.image.now) p sap r.now) }
+    ensures { RightlyBrought (table_in table.entry) r.now result (arrives state_rows (table_in table.entry) p sap r.now) }
 {
     if !table_lookup::knows(table, p) {
         return Err(Refusal::NobodyThere);
@@ -124,7 +123,7 @@ fn arrives(table: LentTable, p: PpaNumber, sap: u8, r: &[u8]) -> Result<Brought,
 // By the record's kind. (What could not be read is refusal 10.)
 fn bring(table: LentTable, r: &[u8], q: Input) -> Result<Brought, Refusal>
     requires { is_of_line q ≡ true }
-    ensures { RightlyBrought (table_of table.entry.image.now) r.now result (serve_by state_rows (table_of table.entry.image.now) r.now q) }
+    ensures { RightlyBrought (table_in table.entry) r.now result (serve_by state_rows (table_in table.entry) r.now q) }
 {
     match q {
         Input::CallArrives(p, sap) => arrives(table, p, sap, r),
@@ -141,9 +140,9 @@ fn bring(table: LentTable, r: &[u8], q: Input) -> Result<Brought, Refusal>
 
 // What is decided of a record of the line.
 pub fn occur(table: LentTable, r: &[u8], q: Input) -> Result<Deed, Refusal>
-    requires granted { (i : ℕ) → (stream (table_of table.image.now) i).granted ≤ most_open }
+    requires granted { (i : ℕ) → (stream (table_in table) i).granted ≤ most_open }
     requires line { is_of_line q ≡ true }
-    ensures { Rightly (table_of table.entry.image.now) r.now result (serve_by state_rows (table_of table.entry.image.now) r.now q) }
+    ensures { Rightly (table_in table.entry) r.now result (serve_by state_rows (table_in table.entry) r.now q) }
 {
     let b = bring(table, r, q)?;
     come(table, b.stream, b.refusal, b.event)

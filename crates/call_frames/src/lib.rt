@@ -9,7 +9,7 @@ ghost use Rattle.paper.specs.RecordsIn.{pair_size, frame_called_in};
 ghost use Rattle.paper.specs.RecordsOut.{all_bytes};
 ghost use Rattle.paper.specs.Datagrams.{is_for, is_shown, shown_below, indications, frames};
 ghost use Rattle.paper.specs.StateRows.{state_rows};
-ghost use Rattle.table_image.specs.Layout.{table_of};
+ghost use Rattle.table_image.specs.LentTable.{table_in};
 ghost use Rattle.call_outcomes.specs.Leaving.{left, leaving};
 ghost use Rattle.call_outcomes.specs.Answering.{call_number};
 ghost use Rattle.call_frames.specs.Showing.{if_shown, block_of, Framed, ShowsOne, Shows, most_shown};
@@ -39,7 +39,7 @@ fn is_for(s: Stream, f: Frame) -> bool
 // The stream is open, and the frame is for it. The SAP is asked first: it is another for most.
 fn is_shown(table: LentTable, i: usize, f: Frame) -> bool
     requires { i < stream_total }
-    ensures { result ≡ is_shown state_rows f (slot (table_of table.entry.image.now) i) }
+    ensures { result ≡ is_shown state_rows f (slot (table_in table.entry) i) }
 {
     if table.sap_at(i) != f.sap {
         return false;
@@ -72,7 +72,7 @@ fn put_if_shown(
     block: &[u8],
 ) -> usize
     requires { ShowsOne i r.now f block.now room.old }
-    ensures { WroteMost pair_size (all_bytes (indications r.now f (if_shown (table_of table.entry.image.now) f i))) 0 result room.old room.new }
+    ensures { WroteMost pair_size (all_bytes (indications r.now f (if_shown (table_in table.entry) f i))) 0 result room.old room.new }
 {
     let form = f.form;
     if !is_shown(table, i, f) {
@@ -91,7 +91,7 @@ fn put_if_shown(
 // In stream order, each right behind the one before.
 fn put_indications(table: LentTable, room: &mut [u8], r: &[u8], f: Frame, block: &[u8]) -> usize
     requires { Shows r.now f block.now room.old }
-    ensures { WroteMost most_shown (all_bytes (indications r.now f (shown_below state_rows (table_of table.entry.image.now) f stream_total))) 0 result room.old room.new }
+    ensures { WroteMost most_shown (all_bytes (indications r.now f (shown_below state_rows (table_in table.entry) f stream_total))) 0 result room.old room.new }
 {
     let mut n = 0;
     for i in 0..STREAM_TOTAL {
@@ -102,7 +102,7 @@ fn put_indications(table: LentTable, room: &mut [u8], r: &[u8], f: Frame, block:
 
 // The called MAC is that of the PPA.
 fn is_called(table: LentTable, r: &[u8], f: Frame) -> bool
-    ensures { result ≡ same_bytes (take mac_size (frame_called_in r.now f.form)) (mac_of (table_of table.entry.image.now) f.ppa) }
+    ensures { result ≡ same_bytes (take mac_size (frame_called_in r.now f.form)) (mac_of (table_in table.entry) f.ppa) }
 {
     let p = f.ppa;
     table_lookup::has_mac(table, p, octets::part_at(r, 6, MAC_SIZE))
@@ -111,7 +111,7 @@ fn is_called(table: LentTable, r: &[u8], f: Frame) -> bool
 // 5 for data over 64, 7 on an unknown PPA; else the indications, none where the called MAC is another.
 pub fn show(table: LentTable, room: &mut [u8], r: &[u8], f: Frame) -> Result<Served, Refusal>
     requires { Framed r.now room.old }
-    ensures { left (call_number result) table.entry.image.now room.new ≡ leaving table.entry.image.now room.old (frames state_rows (table_of table.entry.image.now) r.now f) }
+    ensures { left (call_number result) table.entry.image.now room.new ≡ leaving table.entry.image.now room.old (frames state_rows (table_in table.entry) r.now f) }
 {
     let p = f.ppa;
     let form = f.form;

@@ -29,20 +29,6 @@ use Rattle.call_outcomes.specs.Leaving.{left, leaving}
 abbrev is_free : Slot → Bool
 is_free x = not x.is_open
 
--- n streams are free
-module _ (t : Table) (s : Shaped t) (n : ℕ) (e : n ≡ sum_of (λ (x : Slot). one_if (not x.is_open)) t.slots) where
-  pub none_free : n ≡ 0 → stream_total ≤ lowest_free t
-  unfolding lowest_free
-  none_free z = omega (arith, s.sixteen, none_first is_free t.slots (sym e ∙ z))
-
-  pub some-free : (n ≡ 0 → ⊥) → lowest_free t < stream_total
-  unfolding lowest_free
-  some-free h = go (ltb (first_of is_free t.slots) stream_total) refl
-    where
-      go : (b : Bool) → ltb (first_of is_free t.slots) stream_total ≡ b → first_of is_free t.slots < stream_total
-      go true q = ltb-true (first_of is_free t.slots) stream_total q
-      go false q = absurd (h (e ∙ first_none is_free t.slots (omega (arith, s.sixteen, ltb-false (first_of is_free t.slots) stream_total q))))
-
 -- it is not open
 pub free-shut : (t : Table) → Shaped t → (i : ℕ) → i ≡ lowest_free t → i < stream_total → (slot t i).is_open ≡ false
 unfolding lowest_free

@@ -12,6 +12,7 @@ ghost use Rattle.call_outcomes.specs.Leaving.{left, leaving};
 ghost use Rattle.call_outcomes.specs.Answering.{call_number};
 ghost use Rattle.octets.specs.Writing.{WroteMost};
 ghost use Rattle.table_image.specs.Lent.{LentMac};
+ghost use Rattle.table_image.specs.LentTable.{table_in};
 ghost use Rattle.call_outcomes.specs.Rooms.{LentCall};
 ghost use Rattle.call_openings.specs.Openable.{Openable, most_goodbyes};
 
@@ -54,7 +55,7 @@ pub fn open_stream(img: &mut [u8]) -> Result<Served, Refusal>
 fn put_drops(table: LentTable, room: &mut [u8], i: u8) -> usize
     requires within { i < stream_total }
     requires roomy { room_size ≤ length room.old }
-    ensures { WroteMost most_goodbyes (all_bytes (map (goodbye i) (waiting (table_of table.entry.image.now) i))) 0 result room.old room.new }
+    ensures { WroteMost most_goodbyes (all_bytes (map (goodbye i) (waiting (table_in table.entry) i))) 0 result room.old room.new }
 {
     let at = i as usize;
     let count = table.count_at(at) as usize;
@@ -73,7 +74,7 @@ fn put_drops(table: LentTable, room: &mut [u8], i: u8) -> usize
 fn put_goodbyes(table: LentTable, room: &mut [u8], i: u8) -> usize
     requires within { i < stream_total }
     requires roomy { room_size ≤ length room.old }
-    ensures { WroteMost most_goodbyes (all_bytes (goodbyes i (slot (table_of table.entry.image.now) i))) 0 result room.old room.new }
+    ensures { WroteMost most_goodbyes (all_bytes (goodbyes i (slot (table_in table.entry) i))) 0 result room.old room.new }
 {
     let state = table.state_at(i as usize);
     if state.number() == 9 {

@@ -1,10 +1,9 @@
 -- What is lent to the functions that read a table where it lies, and to those that change it.
 use Rattle.std.specs.Prelude.{ℕ, ◌<◌, ◌≡◌, true, List, length}
-use Rattle.paper.specs.Base.{stream_total, most_ppas, mac_size, slot, closed, stream, waiting}
+use Rattle.paper.specs.Base.{stream_total, most_ppas, mac_size, slot, closed, waiting}
 use Rattle.table_image.specs.Layout.{image_size, table_of, image_of, bit}
 use Rattle.table_image.specs.Shape.{Shaped}
 use Rattle.paper.specs.Saps.{most_open}
-use Rattle.paper.specs.declared.Stream.{Stream}
 
 -- bytes as long as an image,
 pub record Held (img : List ℕ) : Type 0 where
@@ -54,8 +53,3 @@ pub record PpaPlace (mac img : List ℕ) : Type 0 where
 pub record Masked (i m b : ℕ) : Type 0 where
   pub within : i < stream_total
   pub told : bit m i ≡ b
-
--- a stream of the table stands as s
-pub record Loaded (s : Stream) (i : ℕ) (img : List ℕ) : Type 0 where
-  pub within : i < stream_total
-  pub loaded : s ≡ stream (table_of img) i

@@ -75,29 +75,31 @@ pub struct LentTable<'a> {
 }
 
 impl<'a> LentTable<'a> {
+    ghost use Rattle.table_image.specs.LentTable.{table_in};
+
     // A stream was ever opened.
     pub fn remembers(self) -> bool
-        ensures { result ≡ (table_of self.entry.image.now).remembers }
+        ensures { result ≡ (table_in self.entry).remembers }
     {
         self.image[MEMORY_OFFSET] == 1
     }
 
     pub fn ppa_total(self) -> u8
-        ensures { result ≡ length (table_of self.entry.image.now).ppas }
+        ensures { result ≡ length (table_in self.entry).ppas }
     {
         self.image[PPA_COUNT_OFFSET]
     }
 
     // The counter for correlation numbers.
     pub fn counter(self) -> u32
-        ensures { result ≡ (table_of self.entry.image.now).counter }
+        ensures { result ≡ (table_in self.entry).counter }
     {
         octets::number_inside::<u32>(self.image, COUNTER_OFFSET)
     }
 
     // Past the table's end no stream is open.
     pub fn is_open(self, i: usize) -> bool
-        ensures { result ≡ (slot (table_of self.entry.image.now) i).is_open }
+        ensures { result ≡ (slot (table_in self.entry) i).is_open }
     {
         if i < STREAM_TOTAL {
             let m = mask_in(self.image);
@@ -109,7 +111,7 @@ impl<'a> LentTable<'a> {
     // How a stream stands.
     pub fn load_stream(self, i: usize) -> Stream
         requires { i < stream_total }
-        ensures { result ≡ stream (table_of self.entry.image.now) i }
+        ensures { result ≡ stream (table_in self.entry) i }
     {
         let at = i * SLOT_SIZE + SLOTS_OFFSET;
         stream_from(&self.image[at..at + SLOT_SIZE])
@@ -118,21 +120,21 @@ impl<'a> LentTable<'a> {
     // One thing of a stream, read where it lies.
     pub fn state_at(self, i: usize) -> State
         requires { i < stream_total }
-        ensures { result ≡ (stream (table_of self.entry.image.now) i).state }
+        ensures { result ≡ (stream (table_in self.entry) i).state }
     {
         State::of_number(self.image[i * SLOT_SIZE + SLOTS_OFFSET + STATE_OFFSET])
     }
 
     pub fn granted_at(self, i: usize) -> u8
         requires { i < stream_total }
-        ensures { result ≡ (stream (table_of self.entry.image.now) i).granted }
+        ensures { result ≡ (stream (table_in self.entry) i).granted }
     {
         self.image[i * SLOT_SIZE + SLOTS_OFFSET + GRANTED_OFFSET]
     }
 
     pub fn attached_at(self, i: usize) -> PpaNumber
         requires { i < stream_total }
-        ensures { result ≡ (stream (table_of self.entry.image.now) i).ppa }
+        ensures { result ≡ (stream (table_in self.entry) i).ppa }
     {
         let at = i * SLOT_SIZE + SLOTS_OFFSET + ATTACHED_OFFSET;
         PpaNumber(octets::number_inside::<u32>(self.image, at))
@@ -140,7 +142,7 @@ impl<'a> LentTable<'a> {
 
     pub fn sap_at(self, i: usize) -> u16
         requires { i < stream_total }
-        ensures { result ≡ (stream (table_of self.entry.image.now) i).sap }
+        ensures { result ≡ (stream (table_in self.entry) i).sap }
     {
         octets::number_inside::<u16>(self.image, i * SLOT_SIZE + SLOTS_OFFSET + SAP_OFFSET)
     }
@@ -148,7 +150,7 @@ impl<'a> LentTable<'a> {
     // How many indications of a stream are open.
     pub fn count_at(self, i: usize) -> u8
         requires { i < stream_total }
-        ensures { result ≡ length (waiting (table_of self.entry.image.now) i) }
+        ensures { result ≡ length (waiting (table_in self.entry) i) }
     {
         self.image[i * SLOT_SIZE + SLOTS_OFFSET + COUNT_OFFSET]
     }

@@ -9,6 +9,7 @@ ghost use Rattle.paper.specs.Saps.{most_open};
 ghost use Rattle.paper.specs.Correlations.{occurrences, next_number};
 ghost use Rattle.table_image.specs.Layout.{slot_base, table_of, stream_bytes, waiting_bytes, image_of};
 ghost use Rattle.table_image.specs.Lent.{Lent, At, LentAt, NumberPlace};
+ghost use Rattle.table_image.specs.LentTable.{table_in};
 ghost use Rattle.table_numbers.specs.Row.{InRow, RowRoom};
 
 use paper::{Correlation, MOST_NUMBERS, STREAM_TOTAL, Stream};
@@ -28,8 +29,8 @@ const FIRST_NUMBER: usize = SLOTS_OFFSET + NUMBERS_OFFSET;
 // The open number at a place, the oldest first.
 pub fn number_at(table: LentTable, i: usize, k: usize) -> Correlation
     requires within { i < stream_total }
-    requires placed { k < length (waiting (table_of table.image.now) i) }
-    ensures { result ≡ record { 0 = get_or (waiting (table_of table.entry.image.now) i) k 0 } }
+    requires placed { k < length (waiting (table_in table) i) }
+    ensures { result ≡ record { 0 = get_or (waiting (table_in table.entry) i) k 0 } }
 {
     Correlation(octets::number_inside::<u32>(table.image, i * SLOT_SIZE + k * 4 + FIRST_NUMBER))
 }
@@ -37,7 +38,7 @@ pub fn number_at(table: LentTable, i: usize, k: usize) -> Correlation
 // The first place of a number among a stream's open ones.
 fn number_place(table: LentTable, i: usize, n: Correlation) -> Option<usize>
     requires { i < stream_total }
-    ensures { result ≡ position (eqb n.0) (waiting (table_of table.entry.image.now) i) }
+    ensures { result ≡ position (eqb n.0) (waiting (table_in table.entry) i) }
 {
     (0..table.count_at(i) as usize).find(|&k| n.0 == number_at(table, i, k).0)
 }
@@ -45,7 +46,7 @@ fn number_place(table: LentTable, i: usize, n: Correlation) -> Option<usize>
 // A number is open on a stream.
 pub fn is_waiting(table: LentTable, i: usize, n: Correlation) -> bool
     requires { i < stream_total }
-    ensures { result ≡ has n.0 (waiting (table_of table.entry.image.now) i) }
+    ensures { result ≡ has n.0 (waiting (table_in table.entry) i) }
 {
     number_place(table, i, n).is_some()
 }
@@ -53,7 +54,7 @@ pub fn is_waiting(table: LentTable, i: usize, n: Correlation) -> bool
 // How many numbers stay open on a stream without one of them.
 pub fn remaining(table: LentTable, i: usize, n: Correlation) -> u8
     requires { i < stream_total }
-    ensures { result ≡ length (without n.0 (waiting (table_of table.entry.image.now) i)) }
+    ensures { result ≡ length (without n.0 (waiting (table_in table.entry) i)) }
 {
     let count = table.count_at(i);
     if is_waiting(table, i, n) {
@@ -66,7 +67,7 @@ pub fn remaining(table: LentTable, i: usize, n: Correlation) -> u8
 // How often a number is open on a stream.
 fn occurs_on(table: LentTable, i: usize, n: u32) -> u32
     requires { i < stream_total }
-    ensures { result ≡ occ n (waiting (table_of table.entry.image.now) i) }
+    ensures { result ≡ occ n (waiting (table_in table.entry) i) }
 {
     (0..table.count_at(i) as usize)
         .filter(|&k| n == number_at(table, i, k).0)
@@ -75,7 +76,7 @@ fn occurs_on(table: LentTable, i: usize, n: u32) -> u32
 
 // How often a number is open in the table.
 fn occurrences(table: LentTable, n: u32) -> u32
-    ensures { result ≡ occurrences (table_of table.entry.image.now) n }
+    ensures { result ≡ occurrences (table_in table.entry) n }
 {
     (0..STREAM_TOTAL).map(|i| occurs_on(table, i, n)).sum()
 }
@@ -83,8 +84,8 @@ fn occurrences(table: LentTable, n: u32) -> u32
 // A stream's open numbers over others, from a place on.
 fn copy_numbers(table: LentTable, i: usize, dst: &mut [u32], at: usize)
     requires within { i < stream_total }
-    requires fits { at + length (waiting (table_of table.image.now) i) ≤ length dst.old }
-    ensures { dst.new ≡ paste dst.old at (waiting (table_of table.entry.image.now) i) }
+    requires fits { at + length (waiting (table_in table) i) ≤ length dst.old }
+    ensures { dst.new ≡ paste dst.old at (waiting (table_in table.entry) i) }
 {
     for k in 0..table.count_at(i) as usize {
         dst[at + k] = number_at(table, i, k).0;
@@ -108,7 +109,7 @@ pub fn open_numbers(img: &[u8], dst: &mut [u32]) -> usize
 
 // Not 0, and open nowhere.
 fn is_free(table: LentTable, n: u32) -> bool
-    ensures { result ≡ free (occurrences (table_of table.entry.image.now)) n }
+    ensures { result ≡ free (occurrences (table_in table.entry)) n }
 {
     0 < n && occurrences(table, n) == 0
 }
@@ -132,7 +133,7 @@ pub fn next_number(img: &[u8]) -> u32
 // The bytes of a stream's open numbers.
 fn numbers_of(table: LentTable, i: usize) -> [u8; NUMBER_BYTES]
     requires { i < stream_total }
-    ensures { result ≡ waiting_bytes (waiting (table_of table.entry.image.now) i) }
+    ensures { result ≡ waiting_bytes (waiting (table_in table.entry) i) }
 {
     let at = i * SLOT_SIZE + FIRST_COUNT;
     let mut bytes = [0u8; NUMBER_BYTES];
@@ -143,8 +144,8 @@ fn numbers_of(table: LentTable, i: usize) -> [u8; NUMBER_BYTES]
 // Those bytes with one number more behind the others.
 fn one_number_more(table: LentTable, i: usize, n: u32) -> [u8; NUMBER_BYTES]
     requires within { i < stream_total }
-    requires place { length (waiting (table_of table.image.now) i) < most_open }
-    ensures { result ≡ waiting_bytes (waiting (table_of table.entry.image.now) i ++ (n ∷ [])) }
+    requires place { length (waiting (table_in table) i) < most_open }
+    ensures { result ≡ waiting_bytes (waiting (table_in table.entry) i ++ (n ∷ [])) }
 {
     let count = table.count_at(i);
     let mut bytes = numbers_of(table, i);
@@ -156,8 +157,8 @@ fn one_number_more(table: LentTable, i: usize, n: u32) -> [u8; NUMBER_BYTES]
 // Those bytes without the number at a place: the later ones move down.
 fn one_number_less(table: LentTable, i: usize, k: usize) -> [u8; NUMBER_BYTES]
     requires within { i < stream_total }
-    requires placed { k < length (waiting (table_of table.image.now) i) }
-    ensures { result ≡ waiting_bytes (take k (waiting (table_of table.entry.image.now) i) ++ drop (suc k) (waiting (table_of table.entry.image.now) i)) }
+    requires placed { k < length (waiting (table_in table) i) }
+    ensures { result ≡ waiting_bytes (take k (waiting (table_in table.entry) i) ++ drop (suc k) (waiting (table_in table.entry) i)) }
 {
     let count = table.count_at(i);
     let old = numbers_of(table, i);

@@ -5,8 +5,9 @@ ghost use Rattle.std.specs.Prelude.{◌≡◌, ℕ, ◌<◌, ◌≤◌, length, 
 ghost use Rattle.ledger.specs.Tally.{occ, all_of};
 ghost use Rattle.paper.specs.Base.{stream_total, slot, stream, ppa_numbers};
 ghost use Rattle.paper.specs.Sound.{every, unbound, open_tests, sound_slot, listeners_of, is_alone, remembers_openings, sound};
-ghost use Rattle.table_image.specs.Layout.{table_of, is_state, tidy_slot, tidy_ppas, tidy, sound_image, slot_size};
+ghost use Rattle.table_image.specs.Layout.{is_state, tidy_slot, tidy_ppas, tidy, sound_image, slot_size};
 ghost use Rattle.table_image.specs.Lent.{Held};
+ghost use Rattle.table_image.specs.LentTable.{table_in};
 ghost use Rattle.table_soundness.specs.Groups.{are_slots_tidy, is_attached_right, is_bound_right, is_count_right, open_numbers, is_single_in, are_single, is_stream_sound};
 ghost use Rattle.paper.specs.Correlations.{most_numbers};
 
@@ -70,15 +71,15 @@ fn is_tidy(img: &[u8]) -> bool
 
 #[tactic(auto, using(crate::proofs::Slots::ppa_number_at))]
 fn ppa_number(table: LentTable, k: usize) -> u32
-    requires { k < length (table_of table.image.now).ppas }
-    ensures { result ≡ get_or (ppa_numbers (table_of table.entry.image.now)) k 0 }
+    requires { k < length (table_in table).ppas }
+    ensures { result ≡ get_or (ppa_numbers (table_in table.entry)) k 0 }
 {
     octets::number_inside::<u32>(table.image, k * PLACE_SIZE + PLACES_OFFSET)
 }
 
 // How often a number is that of a PPA.
 fn ppas_with(table: LentTable, n: u32) -> u32
-    ensures { result ≡ occ n (ppa_numbers (table_of table.entry.image.now)) }
+    ensures { result ≡ occ n (ppa_numbers (table_in table.entry)) }
 {
     let total = usize::from(table.ppa_total());
     (0..total)
@@ -87,7 +88,7 @@ fn ppas_with(table: LentTable, n: u32) -> u32
 }
 
 fn ppas_differ(table: LentTable) -> bool
-    ensures { result ≡ all_of (λ (p : ℕ). leb (occ p (ppa_numbers (table_of table.entry.image.now))) 1) (ppa_numbers (table_of table.entry.image.now)) }
+    ensures { result ≡ all_of (λ (p : ℕ). leb (occ p (ppa_numbers (table_in table.entry))) 1) (ppa_numbers (table_in table.entry)) }
 {
     let total = usize::from(table.ppa_total());
     (0..total).all(|k| ppas_with(table, ppa_number(table, k)) <= 1)
@@ -98,7 +99,7 @@ fn ppas_differ(table: LentTable) -> bool
 // Attached to a PPA of the table except in state 0.
 #[tactic(auto, unfolding(crate::specs::Groups::is_attached_right, paper::specs::Base::knows))]
 fn is_attached_right(table: LentTable, s: Stream) -> bool
-    ensures { result ≡ is_attached_right (ppa_numbers (table_of table.entry.image.now)) s }
+    ensures { result ≡ is_attached_right (ppa_numbers (table_in table.entry)) s }
 {
     let p = s.ppa;
     if s.state.number() == 0 {
@@ -138,7 +139,7 @@ fn is_count_right(s: Stream, count: u8) -> bool
 #[tactic(auto, using(crate::proofs::Slots::grouped))]
 fn is_open_sound(table: LentTable, i: usize) -> bool
     requires { i < stream_total }
-    ensures { result ≡ every (open_tests (ppa_numbers (table_of table.entry.image.now)) (slot (table_of table.entry.image.now) i)) }
+    ensures { result ≡ every (open_tests (ppa_numbers (table_in table.entry)) (slot (table_in table.entry) i)) }
 {
     let s = table.load_stream(i);
     is_attached_right(table, s) && is_bound_right(s) && is_count_right(s, table.count_at(i))
@@ -148,7 +149,7 @@ fn is_open_sound(table: LentTable, i: usize) -> bool
 #[tactic(auto, unfolding(paper::specs::Sound::sound_slot), using(crate::proofs::Slots::closed_bytes))]
 fn is_slot_sound(table: LentTable, i: usize) -> bool
     requires { i < stream_total }
-    ensures { result ≡ sound_slot (ppa_numbers (table_of table.entry.image.now)) (slot (table_of table.entry.image.now) i) }
+    ensures { result ≡ sound_slot (ppa_numbers (table_in table.entry)) (slot (table_in table.entry) i) }
 {
     if table.is_open(i) {
         return is_open_sound(table, i);
@@ -184,7 +185,7 @@ fn are_single(numbers: &[u32]) -> bool
 }
 
 fn are_numbers_single(table: LentTable) -> bool
-    ensures { result ≡ are_single (open_numbers (table_of table.entry.image.now)) }
+    ensures { result ≡ are_single (open_numbers (table_in table.entry)) }
 {
     let mut numbers = [0u32; MOST_NUMBERS];
     let total = table_numbers::open_numbers(table.image, &mut numbers);
@@ -194,7 +195,7 @@ fn are_numbers_single(table: LentTable) -> bool
 // ---- no two streams listen for one PPA and SAP
 
 fn listeners_for(table: LentTable, p: PpaNumber, sap: u32) -> u32
-    ensures { result ≡ listeners_of (table_of table.entry.image.now) p sap }
+    ensures { result ≡ listeners_of (table_in table.entry) p sap }
 {
     (0..STREAM_TOTAL)
         .map(|i| u32::from(table_lookup::listens_at(table, p, sap, i)))
@@ -204,7 +205,7 @@ fn listeners_for(table: LentTable, p: PpaNumber, sap: u32) -> u32
 #[tactic(auto, unfolding(paper::specs::Sound::is_alone))]
 fn is_alone(table: LentTable, i: usize) -> bool
     requires { i < stream_total }
-    ensures { result ≡ is_alone (table_of table.entry.image.now) (stream (table_of table.entry.image.now) i) }
+    ensures { result ≡ is_alone (table_in table.entry) (stream (table_in table.entry) i) }
 {
     if table.granted_at(i) == 0 {
         return true;
@@ -219,13 +220,13 @@ fn is_alone(table: LentTable, i: usize) -> bool
 #[tactic(auto, unfolding(crate::specs::Groups::is_stream_sound))]
 fn is_stream_sound(table: LentTable, i: usize) -> bool
     requires { i < stream_total }
-    ensures { result ≡ is_stream_sound (table_of table.entry.image.now) (slot (table_of table.entry.image.now) i) }
+    ensures { result ≡ is_stream_sound (table_in table.entry) (slot (table_in table.entry) i) }
 {
     is_slot_sound(table, i) && is_alone(table, i)
 }
 
 fn are_streams_sound(table: LentTable) -> bool
-    ensures { result ≡ all_of (is_stream_sound (table_of table.entry.image.now)) (table_of table.entry.image.now).slots }
+    ensures { result ≡ all_of (is_stream_sound (table_in table.entry)) (table_in table.entry).slots }
 {
     (0..STREAM_TOTAL).all(|i| is_stream_sound(table, i))
 }
@@ -233,14 +234,14 @@ fn are_streams_sound(table: LentTable) -> bool
 // A table with an open stream remembers an opening.
 #[tactic(auto, using(crate::proofs::Slots::all_closed))]
 fn remembers_openings(table: LentTable) -> bool
-    ensures { result ≡ remembers_openings (table_of table.entry.image.now) }
+    ensures { result ≡ remembers_openings (table_in table.entry) }
 {
     table.remembers() || table_image::free_total(table.image) == STREAM_TOTAL as u32
 }
 
 #[tactic(auto, using(crate::proofs::Slots::sound_groups))]
 fn is_sound(table: LentTable) -> bool
-    ensures { result ≡ sound (table_of table.entry.image.now) }
+    ensures { result ≡ sound (table_in table.entry) }
 {
     ppas_differ(table)
         && are_streams_sound(table)
