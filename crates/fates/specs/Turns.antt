@@ -1,13 +1,12 @@
 -- What a turn of fates tells: the lines of its call and their text, and what it leaves.
-use Rattle.std.specs.Prelude.{ℕ, ◌+◌, ◌≡◌, false, List, length}
+use Rattle.std.specs.Prelude.{ℕ, ◌≡◌, false, List}
 use Rattle.std.proofs.Common.{lit≤}
-use Rattle.octets.specs.Runs.{paste}
-use Rattle.octets.specs.Writing.{WroteMost}
+use Rattle.text.specs.Page.{Page, put, Put}
 use Rattle.call_outcomes.specs.Leaving.{call_made}
 use Rattle.fates_book.specs.declared.Line.{Line}
 use Rattle.fates_register.specs.Register.{entered_all}
 use Rattle.fates_report.specs.Report.{all_text, told_size, heading, closing}
-use Rattle.turns.specs.Turns.{unread, call_on, after_call, turn_after, after_turn, Fine}
+use Rattle.turns.specs.Turns.{unread, call_on, after_call, turn_after, after_turn, Fine, Whole}
 use Rattle.turns.specs.Programs.{Teller}
 use Rattle.turns.specs.declared.Turn.{Turn}
 use Rattle.fates.specs.Told.{Told, lines_by}
@@ -35,30 +34,33 @@ text_on table register input t = all_text (lines_on table input t) register
 
 -- ---- what is left: after a call, after the call of a turn, after the turn, and after any turns
 
--- the lines of the call are entered, and their text is written
-pub record CallTold (table register bytes out : List ℕ) (at : ℕ) (table' register' out' : List ℕ) (end : ℕ) : Type 0 where
+-- the lines of the call are entered, and their text is put
+pub record CallTold (table register bytes : List ℕ) (page : Page) (table' register' : List ℕ) (page' : Page) : Type 0 where
   pub told : Told table' register'
   pub image : table' ≡ (call_made table bytes).image
   pub entered : register' ≡ entered_all (lines_by bytes (call_made table bytes)) register
-  pub wrote : WroteMost told_size (all_text (lines_by bytes (call_made table bytes)) register) at end out out'
+  pub wrote : Put told_size (all_text (lines_by bytes (call_made table bytes)) register) page page'
 
 -- Refused calls are not counted.
-pub record Called (table register input output : List ℕ) (t : Turn) (table' register' output' : List ℕ) (r : Turn) : Type 0 where
-  pub is : r ≡ after_call input (t.filled + length (text_on table register input t)) false t
+pub record Called (table register input : List ℕ) (page : Page) (t : Turn) (table' register' : List ℕ) (page' : Page) (r : Turn) : Type 0 where
+  pub is : r ≡ after_call input false t
   pub fine : Fine r
+  pub prints : Whole page'
   pub told : Told table' register'
   pub image : table' ≡ (call_on table input t).image
   pub entered : register' ≡ entered_all (lines_on table input t) register
-  pub stands : output' ≡ paste output t.filled (text_on table register input t)
+  pub stands : page' ≡ put page (text_on table register input t)
 
-pub record Turned (table register input output : List ℕ) (t : Turn) (table' register' output' : List ℕ) (r : Turn) : Type 0 where
-  pub is : r ≡ turn_after input (text_on table register input t) false t
+pub record Turned (table register input : List ℕ) (page : Page) (t : Turn) (table' register' : List ℕ) (page' : Page) (r : Turn) : Type 0 where
+  pub is : r ≡ turn_after input false t
   pub fine : Fine r
+  pub prints : Whole page'
   pub told : Told table' register'
   pub image : table' ≡ after_turn t table (call_on table input t).image
   pub entered : register' ≡ after_turn t register (entered_all (lines_on table input t) register)
-  pub stands : output' ≡ after_turn t output (paste output t.filled (text_on table register input t))
+  pub stands : page' ≡ after_turn t page (put page (text_on table register input t))
 
-pub record Kept (table register : List ℕ) (t : Turn) : Type 0 where
+pub record Kept (table register : List ℕ) (page : Page) (t : Turn) : Type 0 where
   pub fine : Fine t
+  pub prints : Whole page
   pub told : Told table register

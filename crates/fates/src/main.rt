@@ -1,14 +1,15 @@
 // Reads records on standard input and prints what became of each call that rang in: see docs/FATES.md.
 #![tactic(auto)]
 
-ghost use Rattle.std.specs.Prelude.{◌≡◌, ◌+◌, ◌≤◌, length};
-ghost use Rattle.octets.specs.Writing.{WroteMost};
+ghost use Rattle.std.specs.Prelude.{◌≡◌, ◌≤◌, length};
+ghost use Rattle.text.specs.Page.{Put};
 ghost use Rattle.turns.specs.Turns.{buffer_size, most_text};
 ghost use Rattle.turns.specs.Programs.{CallRoom, Tells};
 ghost use Rattle.fates.specs.Turns.{fates_tell};
 
 use std::io::Write;
-use turns::{Printed, Program};
+use text::Page;
+use turns::Program;
 
 // Beside the table it keeps the register of what it heard.
 #[derive(Drop)]
@@ -19,8 +20,8 @@ struct Fates {
 impl Program for Fates {
     ghost tells = { fates_tell };
 
-    fn put_title(out: &mut [u8]) -> usize {
-        fates_report::put_heading(out, 0)
+    fn put_title(page: &mut Page) {
+        fates_report::put_heading(page);
     }
 
     // The lines of the call are entered in the register. Refused calls are not counted.
@@ -29,20 +30,16 @@ impl Program for Fates {
         table: &mut [u8],
         bytes: &[u8],
         room: &mut [u8],
-        out: &mut [u8],
-        at: usize,
+        page: &mut Page,
         _n: u64,
-    ) -> Printed {
+    ) -> bool {
         let answer = call_outcomes::call_number(call_engine::call_sound(table, bytes, room));
-        let end = fates_report::tell_call(&mut self.register, out, at, bytes, answer, room);
-        Printed {
-            end,
-            refused: false,
-        }
+        fates_report::tell_call(&mut self.register, page, bytes, answer, room);
+        false
     }
 
-    fn put_closing(&self, out: &mut [u8], at: usize, _calls: u64, _refused: u64) -> usize {
-        fates_report::put_closing(out, at, &self.register)
+    fn put_closing(&self, page: &mut Page, _calls: u64, _refused: u64) {
+        fates_report::put_closing(page, &self.register);
     }
 }
 

@@ -10,8 +10,9 @@ use borrow.Author.Tests.{eqb-true, eq-eqb, ne_eqb}
 use Rattle.ledger.specs.Choice.{◌⇒◌∣◌}
 use Rattle.ledger.proofs.Tallies.{chosen}
 use Rattle.octets.specs.Numbers.{be32_at}
-use Rattle.octets.proofs.Writing.{Unwritten, all_unwritten, less_unwritten, none_unwritten, wrote_then, wrote-most, wrote_of}
+use Rattle.text.specs.Page.{Page}
 use Rattle.text.proofs.Laws.{decimal-most}
+use Rattle.text.proofs.Putting.{ToCome, all_to_come, less_to_come, all_put, put_then}
 use Rattle.replay_transcript.proofs.Laws.{message_out}
 use Rattle.paper.specs.declared.Input.{Input}
 use Rattle.paper.specs.RecordsOut.{accept_size, disconnect_size, size_out}
@@ -179,31 +180,31 @@ lines_next k q [] h = absurd (omega arith)
 lines_next k q (x ∷ b) h = refl
 
 -- k lines at most are still to be told, of the records that are left
-pub record StillTelling (out₀ : List ℕ) (at : ℕ) (ys : List Line) (l₀ : List ℕ) (q : Input) (b out : List ℕ) (e : ℕ) (l : List ℕ) : Type 0 where
+pub record StillTelling (first : Page) (ys : List Line) (l₀ : List ℕ) (q : Input) (b : List ℕ) (page : Page) (l : List ℕ) : Type 0 where
   pub k : ℕ
   pub enough : length b ≤ k
-  pub text : Unwritten out₀ at (all_text ys l₀) out e (all_text (lines_in k q b) l)
+  pub text : ToCome first (all_text ys l₀) page (all_text (lines_in k q b) l)
   pub register : entered_all ys l₀ ≡ entered_all (lines_in k q b) l
 
-pub all_telling : (out : List ℕ) (at : ℕ) (q : Input) (b l : List ℕ) → StillTelling out at (lines_in (length b) q b) l q b out at l
-all_telling out at q b l = record {
+pub all_telling : (page : Page) (q : Input) (b l : List ℕ) → StillTelling page (lines_in (length b) q b) l q b page l
+all_telling page q b l = record {
   k = length b;
   enough = omega arith;
-  text = all_unwritten out at (all_text (lines_in (length b) q b) l);
+  text = all_to_come page (all_text (lines_in (length b) q b) l);
   register = refl;
 }
 
 -- a line was told
-pub less-telling : {out₀ : List ℕ} {at : ℕ} {ys : List Line} {l₀ : List ℕ} {q : Input} {b out : List ℕ} {e : ℕ} {l out' : List ℕ} {e' most : ℕ}
+pub less-telling : {first : Page} {ys : List Line} {l₀ : List ℕ} {q : Input} {b : List ℕ} {page : Page} {l : List ℕ} {page' : Page} {most : ℕ}
     {l' : List ℕ} (y : Line)
-    → StillTelling out₀ at ys l₀ q b out e l → 0 < length b → e ≤ length out → y ≡ line_at q b
-    → Telling most (line_text y l) (entered y l) e e' out out' l'
-    → StillTelling out₀ at ys l₀ q (drop (size_out (get_or b 0 0)) b) out' e' l'
+    → StillTelling first ys l₀ q b page l → 0 < length b → y ≡ line_at q b
+    → Telling most (line_text y l) (entered y l) page page' l'
+    → StillTelling first ys l₀ q (drop (size_out (get_or b 0 0)) b) page' l'
 unfolding all_text entered_all
-less-telling {out₀} {at} {ys} {l₀} {q} {b} {out} {e} {l} {out'} {e'} {most} {l'} y t h f p w = go t.k t.enough t.text t.register
+less-telling {first} {ys} {l₀} {q} {b} {page} {l} {page'} {most} {l'} y t h p w = go t.k t.enough t.text t.register
   where
-    go : (k : ℕ) → length b ≤ k → Unwritten out₀ at (all_text ys l₀) out e (all_text (lines_in k q b) l)
-        → entered_all ys l₀ ≡ entered_all (lines_in k q b) l → StillTelling out₀ at ys l₀ q (drop (size_out (get_or b 0 0)) b) out' e' l'
+    go : (k : ℕ) → length b ≤ k → ToCome first (all_text ys l₀) page (all_text (lines_in k q b) l)
+        → entered_all ys l₀ ≡ entered_all (lines_in k q b) l → StillTelling first ys l₀ q (drop (size_out (get_or b 0 0)) b) page' l'
     go zero a c r = absurd (omega (arith, h, a))
     go (suc k) a c r =
         let size : ℕ = size_out (get_or b 0 0) in
@@ -213,19 +214,19 @@ less-telling {out₀} {at} {ys} {l₀} {q} {b} {out} {e} {l} {out'} {e'} {most} 
           k = k;
           enough = omega (arith, a, size-within (get_or b 0 0), length-drop size b);
           text =
-              less_unwritten (line_text y l) (all_text rest l') f c
-              (ap (λ (x : List Line). all_text x l) all ∙ ap (λ (x : List ℕ). line_text y l ++ all_text rest x) (sym w.entered)) (wrote_of w.wrote);
+              less_to_come (line_text y l) (all_text rest l') c
+              (ap (λ (x : List Line). all_text x l) all ∙ ap (λ (x : List ℕ). line_text y l ++ all_text rest x) (sym w.entered)) w.wrote;
           register = r ∙ ap (λ (x : List Line). entered_all x l) all ∙ ap (entered_all rest) (sym w.entered);
         }
 
 -- all are told
-pub none_telling : {out₀ : List ℕ} {at : ℕ} {ys : List Line} {l₀ : List ℕ} {q : Input} {b out : List ℕ} {e : ℕ} {l : List ℕ} {most : ℕ}
-    → StillTelling out₀ at ys l₀ q b out e l → length b ≤ 0 → e ≤ at + most → TellingOf most ys at e out₀ out l₀ l
+pub none_telling : {first : Page} {ys : List Line} {l₀ : List ℕ} {q : Input} {b : List ℕ} {page : Page} {l : List ℕ} {most : ℕ}
+    → StillTelling first ys l₀ q b page l → length b ≤ 0 → length first.spare ≤ length page.spare + most → TellingOf most ys first page l₀ l
 unfolding all_text entered_all
-none_telling {out₀} {at} {ys} {l₀} {q} {b} {out} {e} {l} t h f =
+none_telling {q = q} {b} {l = l} t h f =
     let none = lines_end t.k q b h in
     record {
-      wrote = wrote-most f (none_unwritten t.text (ap (λ (x : List Line). all_text x l) none));
+      wrote = all_put f t.text (ap (λ (x : List Line). all_text x l) none);
       entered = sym (t.register ∙ ap (λ (x : List Line). entered_all x l) none);
     }
 
@@ -239,14 +240,11 @@ text_append (x ∷ xs) ys l =
     ∙ sym (append_assoc (line_text x l) (all_text xs (entered x l)) (all_text ys (entered_all xs (entered x l))))
 
 -- some lines were told, and others behind them
-pub lines-told : {out₀ out₁ out₂ l₁ l₂ : List ℕ} {at e₁ e₂ m n : ℕ} (l₀ : List ℕ) (xs ys : List Line) → at ≤ length out₀
-    → TellingOf m xs at e₁ out₀ out₁ l₀ l₁ → TellingOf n ys e₁ e₂ out₁ out₂ l₁ l₂
-    → TellingOf (m + n) (xs ++ ys) at e₂ out₀ out₂ l₀ l₂
-lines-told l₀ xs ys h a b =
-    rw (text_append xs ys l₀, entered_append xs ys l₀, ← a.entered) (record {
-      wrote = wrote-most (omega (arith, a.wrote.few, b.wrote.few)) (wrote_then h (wrote_of a.wrote) (wrote_of b.wrote));
-      entered = b.entered;
-    })
+pub lines-told : {first second third : Page} {l₁ l₂ : List ℕ} {m n : ℕ} (l₀ : List ℕ) (xs ys : List Line)
+    → TellingOf m xs first second l₀ l₁ → TellingOf n ys second third l₁ l₂
+    → TellingOf (m + n) (xs ++ ys) first third l₀ l₂
+lines-told l₀ xs ys a b =
+    rw (text_append xs ys l₀, entered_append xs ys l₀, ← a.entered) (record { wrote = put_then a.wrote b.wrote; entered = b.entered })
 
 -- where a stream was opened, its line alone
 pub opened_text : (t : ℕ) (l : List ℕ) → (t ≡ 0 → ⊥) → all_text (opening_lines t) l ≡ line_text (Began (t - 1)) l

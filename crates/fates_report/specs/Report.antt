@@ -1,8 +1,8 @@
 -- The text of `fates`, line by line, from the register: see docs/FATES.md.
 use Rattle.std.specs.Prelude.{ℕ, zero, suc, ◌+◌, ◌*◌, ◌/◌, ◌%◌, ◌≤◌, ◌<◌, ◌≡◌, List, [], ◌∷◌, ◌++◌, length, get_or, take, ltb, eqb}
 use Rattle.ledger.specs.Choice.{both, ◌⇒◌∣◌}
-use Rattle.octets.specs.Writing.{WroteMost}
 use Rattle.text.specs.Digits.{most_digits, decimal}
+use Rattle.text.specs.Page.{Page, Put}
 use Rattle.paper.specs.Base.{stream_total}
 use Rattle.paper.specs.Saps.{most_open}
 use Rattle.paper.specs.RecordsIn.{message_size}
@@ -147,49 +147,49 @@ records_size = per_byte * (frame_room_size + message_size)
 abbrev pub told_size : ℕ
 told_size = end_size + records_size
 
--- ---- what is lent: a register, and room for a text from a place on
+-- ---- what is lent: a register, and a page with room for a text
 
-pub record RegisterRoom (register : List ℕ) (size at : ℕ) (out : List ℕ) : Type 0 where
+pub record RegisterRoom (register : List ℕ) (size : ℕ) (page : Page) : Type 0 where
   pub long : length register ≡ register_size
-  pub room : at + size ≤ length out
+  pub room : size ≤ length page.spare
 
--- and a stream that has a page
-pub record StreamRoom (i : ℕ) (register : List ℕ) (size at : ℕ) (out : List ℕ) : Type 0 where
+-- and a stream that has a page of the register
+pub record StreamRoom (i : ℕ) (register : List ℕ) (size : ℕ) (page : Page) : Type 0 where
   pub within : i < stream_total
-  pub lent : RegisterRoom register size at out
+  pub lent : RegisterRoom register size page
 
 -- and the two cells of an indication
-pub record PlaceRoom (i c : ℕ) (register : List ℕ) (size at : ℕ) (out : List ℕ) : Type 0 where
+pub record PlaceRoom (i c : ℕ) (register : List ℕ) (size : ℕ) (page : Page) : Type 0 where
   pub cells : c + 2 ≤ register_size
-  pub on : StreamRoom i register size at out
+  pub on : StreamRoom i register size page
 
 -- and a word for its fate
-pub record FateRoom (word : List ℕ) (i c : ℕ) (register : List ℕ) (size at : ℕ) (out : List ℕ) : Type 0 where
+pub record FateRoom (word : List ℕ) (i c : ℕ) (register : List ℕ) (size : ℕ) (page : Page) : Type 0 where
   pub short : length word ≤ fate_size
-  pub of : PlaceRoom i c register size at out
+  pub of : PlaceRoom i c register size page
 
 -- and a token, or 0
-pub record TokenRoom (token : ℕ) (register : List ℕ) (size at : ℕ) (out : List ℕ) : Type 0 where
+pub record TokenRoom (token : ℕ) (register : List ℕ) (size : ℕ) (page : Page) : Type 0 where
   pub small : token < 256
-  pub lent : RegisterRoom register size at out
+  pub lent : RegisterRoom register size page
 
 -- and what was written into a room
-pub record WrittenRoom (written register : List ℕ) (size at : ℕ) (out : List ℕ) : Type 0 where
+pub record WrittenRoom (written register : List ℕ) (size : ℕ) (page : Page) : Type 0 where
   pub short : length written ≤ frame_room_size
-  pub lent : RegisterRoom register size at out
+  pub lent : RegisterRoom register size page
 
 -- k cells of any list, and room for their numbers
-pub record NumbersRoom (c k : ℕ) (cells : List ℕ) (at : ℕ) (out : List ℕ) : Type 0 where
+pub record NumbersRoom (c k : ℕ) (cells : List ℕ) (page : Page) : Type 0 where
   pub within : c + k ≤ length cells
-  pub room : at + spaced_size * k ≤ length out
+  pub room : spaced_size * k ≤ length page.spare
 
--- ---- what is told: a text is written, and the register changes
+-- ---- what is told: a text is put, and the register changes
 
-pub record Telling (most : ℕ) (text kept : List ℕ) (at end : ℕ) (out out' register' : List ℕ) : Type 0 where
-  pub wrote : WroteMost most text at end out out'
+pub record Telling (most : ℕ) (text kept : List ℕ) (before after : Page) (register' : List ℕ) : Type 0 where
+  pub wrote : Put most text before after
   pub entered : register' ≡ kept
 
 -- of lines
-abbrev pub TellingOf : ℕ → List Line → ℕ → ℕ → List ℕ → List ℕ → List ℕ → List ℕ → Type 0
-TellingOf most ys at end out out' register register' =
-    Telling most (all_text ys register) (entered_all ys register) at end out out' register'
+abbrev pub TellingOf : ℕ → List Line → Page → Page → List ℕ → List ℕ → Type 0
+TellingOf most ys before after register register' =
+    Telling most (all_text ys register) (entered_all ys register) before after register'

@@ -1,8 +1,8 @@
-// What fates prints, from the register of indications: see docs/FATES.md. Each writer answers with the place behind.
+// What fates prints, from the register of indications: see docs/FATES.md.
 #![tactic(auto)]
 
-ghost use Rattle.std.specs.Prelude.{◌≡◌, ◌+◌, ◌*◌, ◌≤◌, length};
-ghost use Rattle.octets.specs.Writing.{Wrote, WroteMost};
+ghost use Rattle.std.specs.Prelude.{◌≡◌, ◌*◌, ◌≤◌, length};
+ghost use Rattle.text.specs.Page.{Put};
 ghost use Rattle.paper.specs.Base.{stream_total};
 ghost use Rattle.paper.specs.Saps.{most_open};
 ghost use Rattle.fates_book.specs.Lines.{opening_lines};
@@ -16,54 +16,46 @@ ghost use Rattle.fates_report.specs.Report.{Telling, TellingOf};
 
 use fates_book::{End, Line};
 use paper::Input;
+use text::Page;
 
 // 'dlpi fates'
-pub fn put_heading(out: &mut [u8], at: usize) -> usize
-    requires { at + length heading ≤ length out.old }
-    ensures { Wrote heading at result out.old out.new }
+pub fn put_heading(page: &mut Page)
+    requires { length heading ≤ length page.old.spare }
+    ensures { Put (length heading) heading page.old page.new }
 {
-    text::put_word(out, at, b"dlpi fates\n")
+    page.put_word(b"dlpi fates\n");
 }
 
 // A blank and a number.
-fn put_spaced(out: &mut [u8], at: usize, n: u64) -> usize
-    requires { at + spaced_size ≤ length out.old }
-    ensures { WroteMost spaced_size (spaced_number n) at result out.old out.new }
+fn put_spaced(page: &mut Page, n: u64)
+    requires { spaced_size ≤ length page.old.spare }
+    ensures { Put spaced_size (spaced_number n) page.old page.new }
 {
-    let a = text::put_word(out, at, b" ");
-    text::put_decimal(out, a, n)
+    page.put_word(b" ");
+    page.put_decimal(n);
 }
 
 // k numbers of the register, from cell c on.
-fn put_numbers(out: &mut [u8], at: usize, register: &[u64], c: usize, k: usize) -> usize
-    requires { NumbersRoom c k register.now at out.old }
-    ensures { WroteMost (spaced_size * k) (numbers k c register.now) at result out.old out.new }
+fn put_numbers(page: &mut Page, register: &[u64], c: usize, k: usize)
+    requires { NumbersRoom c k register.now page.old }
+    ensures { Put (spaced_size * k) (numbers k c register.now) page.old page.new }
 {
-    let mut e = at;
     for n in &register[c..c + k] {
-        e = put_spaced(out, e, *n);
+        put_spaced(page, *n);
     }
-    e
 }
 
 // 'call stream opening call number fate', of the indication in cell c.
-fn put_indication(
-    out: &mut [u8],
-    at: usize,
-    register: &[u64],
-    i: usize,
-    c: usize,
-    word: &[u8],
-) -> usize
-    requires { FateRoom word.now i c register.now indication_size at out.old }
-    ensures { WroteMost indication_size (indication_line i c word.now register.now) at result out.old out.new }
+fn put_indication(page: &mut Page, register: &[u64], i: usize, c: usize, word: &[u8])
+    requires { FateRoom word.now i c register.now indication_size page.old }
+    ensures { Put indication_size (indication_line i c word.now register.now) page.old page.new }
 {
-    let a = text::put_word(out, at, b"call");
-    let b = put_spaced(out, a, i as u64);
-    let d = put_numbers(out, b, register, i * fates_register::PAGE_SIZE, 1);
-    let e = put_numbers(out, d, register, c, 2);
-    let f = text::put_word(out, e, word);
-    text::put_word(out, f, b"\n")
+    page.put_word(b"call");
+    put_spaced(page, i as u64);
+    put_numbers(page, register, i * fates_register::PAGE_SIZE, 1);
+    put_numbers(page, register, c, 2);
+    page.put_word(word);
+    page.put_word(b"\n");
 }
 
 // The word for an end.
@@ -79,87 +71,80 @@ fn word_of(end: End) -> &'static [u8]
 }
 
 // The lines of those still open, the oldest first.
-fn put_still_open(out: &mut [u8], at: usize, register: &[u64], i: usize) -> usize
-    requires { StreamRoom i register.now (most_open * indication_size) at out.old }
-    ensures { WroteMost (most_open * indication_size) (open_lines most_open i (places_of i) register.now) at result out.old out.new }
+fn put_still_open(page: &mut Page, register: &[u64], i: usize)
+    requires { StreamRoom i register.now (most_open * indication_size) page.old }
+    ensures { Put (most_open * indication_size) (open_lines most_open i (places_of i) register.now) page.old page.new }
 {
-    let page = i * fates_register::PAGE_SIZE;
-    let mut e = at;
-    for c in (page + fates_register::COUNT_TOTAL..page + fates_register::PLACES_END).step_by(2) {
+    let first = i * fates_register::PAGE_SIZE;
+    for c in (first + fates_register::COUNT_TOTAL..first + fates_register::PLACES_END).step_by(2) {
         if register[c] == 0 {
             break;
         }
-        e = put_indication(out, e, register, i, c, b" open");
+        put_indication(page, register, i, c, b" open");
     }
-    e
 }
 
 // 'opening stream opening calls accepted denied withdrawn dropped open'
-fn put_opening(out: &mut [u8], at: usize, register: &[u64], i: usize) -> usize
-    requires { StreamRoom i register.now counts_size at out.old }
-    ensures { WroteMost counts_size (opening_line i register.now) at result out.old out.new }
+fn put_opening(page: &mut Page, register: &[u64], i: usize)
+    requires { StreamRoom i register.now counts_size page.old }
+    ensures { Put counts_size (opening_line i register.now) page.old page.new }
 {
-    let a = text::put_word(out, at, b"opening");
-    let b = put_spaced(out, a, i as u64);
-    let d = put_numbers(
-        out,
-        b,
+    page.put_word(b"opening");
+    put_spaced(page, i as u64);
+    put_numbers(
+        page,
         register,
         i * fates_register::PAGE_SIZE,
         fates_register::COUNT_TOTAL,
     );
-    let e = put_spaced(out, d, fates_register::open_on(register, i));
-    text::put_word(out, e, b"\n")
+    put_spaced(page, fates_register::open_on(register, i));
+    page.put_word(b"\n");
 }
 
 // What is printed of an opening at its end; nothing of a stream that was never opened.
-fn put_end(out: &mut [u8], at: usize, register: &[u64], i: usize) -> usize
-    requires { StreamRoom i register.now end_size at out.old }
-    ensures { WroteMost end_size (end_text i register.now) at result out.old out.new }
+fn put_end(page: &mut Page, register: &[u64], i: usize)
+    requires { StreamRoom i register.now end_size page.old }
+    ensures { Put end_size (end_text i register.now) page.old page.new }
 {
-    if register[i * fates_register::PAGE_SIZE] == 0 {
-        return at;
+    if register[i * fates_register::PAGE_SIZE] != 0 {
+        put_still_open(page, register, i);
+        put_opening(page, register, i);
     }
-    let a = put_still_open(out, at, register, i);
-    put_opening(out, a, register, i)
 }
 
 // An indication ended that stands in the register.
-fn put_went(out: &mut [u8], at: usize, register: &[u64], i: usize, n: u32, end: End) -> usize
-    requires { StreamRoom i register.now indication_size at out.old }
-    ensures { WroteMost indication_size (line_text (Went i n end) register.now) at result out.old out.new }
+fn put_went(page: &mut Page, register: &[u64], i: usize, n: u32, end: End)
+    requires { StreamRoom i register.now indication_size page.old }
+    ensures { Put indication_size (line_text (Went i n end) register.now) page.old page.new }
 {
     let c = fates_register::place_of(register, i, n);
     if c < i * fates_register::PAGE_SIZE + fates_register::PLACES_END {
-        return put_indication(out, at, register, i, c, word_of(end));
+        put_indication(page, register, i, c, word_of(end));
     }
-    at
 }
 
 // What is printed when a line of the history is entered: of an opening anew the opening before, of an indication that ended its line.
-fn put_line(out: &mut [u8], at: usize, register: &[u64], y: Line) -> usize
-    requires { RegisterRoom register.now end_size at out.old }
-    ensures { WroteMost end_size (line_text y register.now) at result out.old out.new }
+fn put_line(page: &mut Page, register: &[u64], y: Line)
+    requires { RegisterRoom register.now end_size page.old }
+    ensures { Put end_size (line_text y register.now) page.old page.new }
 {
     match y {
-        Line::Began(i) if fates_register::has_page(i) => put_end(out, at, register, i as usize),
+        Line::Began(i) if fates_register::has_page(i) => put_end(page, register, i as usize),
         Line::Went(i, n, end) if fates_register::has_page(i) => {
-            put_went(out, at, register, i as usize, n, end)
+            put_went(page, register, i as usize, n, end)
         }
-        _ => at,
+        _ => {}
     }
 }
 
 // The last openings of the streams.
-fn put_ends(out: &mut [u8], at: usize, register: &[u64]) -> usize
-    requires { RegisterRoom register.now ends_size at out.old }
-    ensures { WroteMost ends_size (end_texts stream_total 0 register.now) at result out.old out.new }
+fn put_ends(page: &mut Page, register: &[u64])
+    requires { RegisterRoom register.now ends_size page.old }
+    ensures { Put ends_size (end_texts stream_total 0 register.now) page.old page.new }
 {
-    let mut e = at;
     for i in 0..paper::STREAM_TOTAL {
-        e = put_end(out, e, register, i);
+        put_end(page, register, i);
     }
-    e
 }
 
 // How many are open on all streams.
@@ -173,80 +158,68 @@ fn open_on_all(register: &[u64]) -> u64
 }
 
 // 'total openings calls accepted denied withdrawn dropped open'
-fn put_total(out: &mut [u8], at: usize, register: &[u64]) -> usize
-    requires { RegisterRoom register.now counts_size at out.old }
-    ensures { WroteMost counts_size (total_line register.now) at result out.old out.new }
+fn put_total(page: &mut Page, register: &[u64])
+    requires { RegisterRoom register.now counts_size page.old }
+    ensures { Put counts_size (total_line register.now) page.old page.new }
 {
-    let a = text::put_word(out, at, b"total");
-    let b = put_numbers(
-        out,
-        a,
+    page.put_word(b"total");
+    put_numbers(
+        page,
         register,
         fates_register::TOTALS_AT,
         fates_register::COUNT_TOTAL,
     );
-    let c = put_spaced(out, b, open_on_all(register));
-    text::put_word(out, c, b"\n")
+    put_spaced(page, open_on_all(register));
+    page.put_word(b"\n");
 }
 
 // What is printed at the end of the capture.
-pub fn put_closing(out: &mut [u8], at: usize, register: &[u64]) -> usize
-    requires { RegisterRoom register.now closing_size at out.old }
-    ensures { WroteMost closing_size (closing register.now) at result out.old out.new }
+pub fn put_closing(page: &mut Page, register: &[u64])
+    requires { RegisterRoom register.now closing_size page.old }
+    ensures { Put closing_size (closing register.now) page.old page.new }
 {
-    let a = put_ends(out, at, register);
-    put_total(out, a, register)
+    put_ends(page, register);
+    put_total(page, register);
 }
 
 // A line of the history: its text, and its entry in the register.
-fn tell(register: &mut [u64], out: &mut [u8], at: usize, y: Line) -> usize
-    requires { RegisterRoom register.old end_size at out.old }
-    ensures { Telling end_size (line_text y register.old) (entered y register.old) at result out.old out.new register.new }
+fn tell(register: &mut [u64], page: &mut Page, y: Line)
+    requires { RegisterRoom register.old end_size page.old }
+    ensures { Telling end_size (line_text y register.old) (entered y register.old) page.old page.new register.new }
 {
-    let e = put_line(out, at, register, y);
+    put_line(page, register, y);
     fates_register::enter(register, y);
-    e
 }
 
 // The lines of the records written, one behind the other.
-fn tell_records(register: &mut [u64], out: &mut [u8], at: usize, q: Input, written: &[u8]) -> usize
-    requires { WrittenRoom written.now register.old records_size at out.old }
-    ensures { TellingOf records_size (lines_written q written.now) at result out.old out.new register.old register.new }
+fn tell_records(register: &mut [u64], page: &mut Page, q: Input, written: &[u8])
+    requires { WrittenRoom written.now register.old records_size page.old }
+    ensures { TellingOf records_size (lines_written q written.now) page.old page.new register.old register.new }
 {
-    let mut e = at;
     let mut rest = written;
     while !rest.is_empty() {
-        e = tell(register, out, e, fates_book::line_at(q, rest));
+        tell(register, page, fates_book::line_at(q, rest));
         rest = replay_transcript::behind_first(rest);
     }
-    e
 }
 
 // The line of the opening, where a stream was opened.
-fn tell_opening(register: &mut [u64], out: &mut [u8], at: usize, token: u32) -> usize
-    requires { TokenRoom token register.old end_size at out.old }
-    ensures { TellingOf end_size (opening_lines token) at result out.old out.new register.old register.new }
+fn tell_opening(register: &mut [u64], page: &mut Page, token: u32)
+    requires { TokenRoom token register.old end_size page.old }
+    ensures { TellingOf end_size (opening_lines token) page.old page.new register.old register.new }
 {
-    if token == 0 {
-        return at;
+    if token != 0 {
+        tell(register, page, Line::Began((token - 1) as u8));
     }
-    tell(register, out, at, Line::Began((token - 1) as u8))
 }
 
 // A call: from the record lent to it, what it returned, and the room that it left.
-pub fn tell_call(
-    register: &mut [u64],
-    out: &mut [u8],
-    at: usize,
-    lent: &[u8],
-    answer: u32,
-    room: &[u8],
-) -> usize
-    requires { WrittenRoom room.now register.old told_size at out.old }
-    ensures { TellingOf told_size (lines_told lent.now answer room.now) at result out.old out.new register.old register.new }
+pub fn tell_call(register: &mut [u64], page: &mut Page, lent: &[u8], answer: u32, room: &[u8])
+    requires { WrittenRoom room.now register.old told_size page.old }
+    ensures { TellingOf told_size (lines_told lent.now answer room.now) page.old page.new register.old register.new }
 {
     let q = wire_records::input_of(lent);
-    let a = tell_opening(register, out, at, answer / 16777216);
+    tell_opening(register, page, answer / 16777216);
     let written = replay_transcript::start_of(room, (answer % 65536) as usize);
-    tell_records(register, out, a, q, written)
+    tell_records(register, page, q, written);
 }

@@ -1,15 +1,13 @@
 -- What the replay program prints of a call, and what that makes of a turn.
-use Rattle.std.specs.Prelude.{ℕ, ◌+◌, ◌≡◌, true, List, length}
+use Rattle.std.specs.Prelude.{ℕ, ◌+◌, ◌≡◌, Bool, true, List}
 use Rattle.std.proofs.Common.{lit≤}
-use Rattle.octets.specs.Runs.{paste}
-use Rattle.octets.specs.Writing.{WroteMost}
+use Rattle.text.specs.Page.{Page, put, Put}
 use Rattle.table_image.specs.Layout.{sound_image}
 use Rattle.call_outcomes.specs.Leaving.{Left, call_made, is_refused}
 use Rattle.replay_transcript.specs.Transcript.{call_text, call_text_size, title, totals}
-use Rattle.turns.specs.Turns.{call_on, after_call, turn_after, after_turn, Fine}
+use Rattle.turns.specs.Turns.{call_on, after_call, turn_after, after_turn, Fine, Whole}
 use Rattle.turns.specs.Programs.{Teller}
 use Rattle.turns.specs.declared.Turn.{Turn}
-use Rattle.turns.specs.declared.Printed.{Printed}
 use Rattle.replay.specs.declared.Replay.{Replay}
 
 abbrev pub printed : ℕ → Left → List ℕ
@@ -34,27 +32,30 @@ text_on table input t = printed (t.calls + 1) (call_on table input t)
 
 -- ---- what is left: after a call, after the call of a turn, after the turn, and after any turns
 
--- the table that the call leaves is sound again, its text is written, and whether it was refused is told
-pub record Replayed (table bytes out : List ℕ) (at n : ℕ) (table' out' : List ℕ) (r : Printed) : Type 0 where
+-- the table that the call leaves is sound again, its text is put, and whether it was refused is told
+pub record Replayed (table bytes : List ℕ) (page : Page) (n : ℕ) (table' : List ℕ) (page' : Page) (refused : Bool) : Type 0 where
   pub image : table' ≡ (call_made table bytes).image
   pub sound : sound_image table' ≡ true
-  pub wrote : WroteMost call_text_size (printed n (call_made table bytes)) at r.end out out'
-  pub told : r.refused ≡ is_refused (call_made table bytes)
+  pub wrote : Put call_text_size (printed n (call_made table bytes)) page page'
+  pub told : refused ≡ is_refused (call_made table bytes)
 
-pub record Called (table input output : List ℕ) (t : Turn) (table' output' : List ℕ) (r : Turn) : Type 0 where
-  pub is : r ≡ after_call input (t.filled + length (text_on table input t)) (is_refused (call_on table input t)) t
+pub record Called (table input : List ℕ) (page : Page) (t : Turn) (table' : List ℕ) (page' : Page) (r : Turn) : Type 0 where
+  pub is : r ≡ after_call input (is_refused (call_on table input t)) t
   pub fine : Fine r
+  pub prints : Whole page'
   pub image : table' ≡ (call_on table input t).image
   pub sound : sound_image table' ≡ true
-  pub stands : output' ≡ paste output t.filled (text_on table input t)
+  pub stands : page' ≡ put page (text_on table input t)
 
-pub record Turned (table input output : List ℕ) (t : Turn) (table' output' : List ℕ) (r : Turn) : Type 0 where
-  pub is : r ≡ turn_after input (text_on table input t) (is_refused (call_on table input t)) t
+pub record Turned (table input : List ℕ) (page : Page) (t : Turn) (table' : List ℕ) (page' : Page) (r : Turn) : Type 0 where
+  pub is : r ≡ turn_after input (is_refused (call_on table input t)) t
   pub fine : Fine r
+  pub prints : Whole page'
   pub image : table' ≡ after_turn t table (call_on table input t).image
   pub sound : sound_image table' ≡ true
-  pub stands : output' ≡ after_turn t output (paste output t.filled (text_on table input t))
+  pub stands : page' ≡ after_turn t page (put page (text_on table input t))
 
-pub record Kept (table : List ℕ) (t : Turn) : Type 0 where
+pub record Kept (table : List ℕ) (page : Page) (t : Turn) : Type 0 where
   pub fine : Fine t
+  pub prints : Whole page
   pub sound : sound_image table ≡ true

@@ -1,14 +1,15 @@
 // Reads records on standard input and prints what the rule paper says of each call: see crates/replay_transcript.
 #![tactic(auto)]
 
-ghost use Rattle.std.specs.Prelude.{◌≡◌, ◌+◌, ◌≤◌, length};
-ghost use Rattle.octets.specs.Writing.{WroteMost};
+ghost use Rattle.std.specs.Prelude.{◌≡◌, ◌≤◌, length};
+ghost use Rattle.text.specs.Page.{Put};
 ghost use Rattle.turns.specs.Turns.{buffer_size, most_text};
 ghost use Rattle.turns.specs.Programs.{CallRoom, Tells};
 ghost use Rattle.replay.specs.Printed.{replay_tells};
 
 use std::io::Write;
-use turns::{Printed, Program};
+use text::Page;
+use turns::Program;
 
 // It keeps nothing beside the table.
 #[derive(Drop)]
@@ -17,8 +18,8 @@ struct Replay;
 impl Program for Replay {
     ghost tells = { replay_tells };
 
-    fn put_title(out: &mut [u8]) -> usize {
-        replay_transcript::put_title(out, 0)
+    fn put_title(page: &mut Page) {
+        replay_transcript::put_title(page);
     }
 
     fn call(
@@ -26,21 +27,17 @@ impl Program for Replay {
         table: &mut [u8],
         bytes: &[u8],
         room: &mut [u8],
-        out: &mut [u8],
-        at: usize,
+        page: &mut Page,
         n: u64,
-    ) -> Printed {
+    ) -> bool {
         let answer = call_engine::call_sound(table, bytes, room);
         let number = call_outcomes::call_number(answer);
-        let end = replay_transcript::put_call(out, at, n, number, room);
-        Printed {
-            end,
-            refused: call_outcomes::is_refused(answer),
-        }
+        replay_transcript::put_call(page, n, number, room);
+        call_outcomes::is_refused(answer)
     }
 
-    fn put_closing(&self, out: &mut [u8], at: usize, calls: u64, refused: u64) -> usize {
-        replay_transcript::put_totals(out, at, calls, refused)
+    fn put_closing(&self, page: &mut Page, calls: u64, refused: u64) {
+        replay_transcript::put_totals(page, calls, refused);
     }
 }
 

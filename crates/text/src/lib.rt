@@ -1,12 +1,84 @@
-// Text in bytes, from a place of a buffer on: numbers in decimal, bytes in hex. Each writer answers with the place behind.
+// Text that grows in lent bytes: words, numbers in decimal, bytes in hex.
 #![tactic(auto)]
 
-ghost use Rattle.std.specs.Prelude.{◌≡◌, ◌+◌, ◌*◌, ◌<◌, ◌≤◌, length};
-ghost use Rattle.octets.specs.Writing.{Wrote, WroteMost};
+ghost use Rattle.std.specs.Prelude.{◌≡◌, ◌+◌, ◌*◌, ◌<◌, ◌≤◌, [], ◌++◌, length};
 ghost use Rattle.text.specs.Digits.{most_digits, digit, decimal, DigitsFrom, hex};
+ghost use Rattle.text.specs.Page.{put, Put};
+
+use std::marker::Model;
 
 // 64 bits have no more.
 const MOST_DIGITS: usize = 20;
+
+// Lent bytes, and how many of them are filled.
+#[derive(Drop)]
+pub struct Page<'a> {
+    bytes: &'a mut [u8],
+    filled: usize,
+}
+
+impl<'a> Model for Page<'a> {
+    ghost use Rattle.std.specs.Prelude.{◌≤◌, length, take, drop};
+    ghost use Rattle.text.specs.Page.{Page as Text};
+
+    ghost Value = { Text };
+
+    ghost view = { λ p. record { text = take p.filled p.bytes.now; spare = drop p.filled p.bytes.now } };
+
+    ghost invariant = { λ p. p.filled ≤ length p.bytes.now };
+}
+
+impl<'a> Page<'a> {
+    // An empty page.
+    pub fn new(bytes: &'a mut [u8]) -> Page<'a>
+        ensures { result ≡ record { text = []; spare = bytes.old } }
+    {
+        Page { bytes, filled: 0 }
+    }
+
+    // Bytes as they are.
+    pub fn put_word(&mut self, word: &[u8])
+        requires { length word.now ≤ length self.old.spare }
+        ensures { Put (length word.now) word.now self.old self.new }
+    {
+        octets::put_bytes(self.bytes, self.filled, word);
+        self.filled += word.len();
+    }
+
+    // A number in decimal.
+    pub fn put_decimal(&mut self, n: u64)
+        requires { most_digits ≤ length self.old.spare }
+        ensures { Put most_digits (decimal n) self.old self.new }
+    {
+        let mut digits = [0u8; MOST_DIGITS];
+        let from = put_digits(&mut digits, n);
+        self.put_word(&digits[from..]);
+    }
+
+    // Bytes in hex.
+    pub fn put_hex(&mut self, bytes: &[u8])
+        requires { 2 * length bytes.now ≤ length self.old.spare }
+        ensures { Put (2 * length bytes.now) (hex bytes.now) self.old self.new }
+    {
+        for b in bytes {
+            self.put_word(&[digit(b / 16), digit(b % 16)]);
+        }
+    }
+
+    // The text so far.
+    pub fn text(&self) -> &[u8]
+        ensures { result.now ≡ self.now.text }
+    {
+        &self.bytes[..self.filled]
+    }
+
+    // The text is gone, and all bytes may be filled anew.
+    pub fn clear(&mut self)
+        ensures { self.new ≡ record { text = []; spare = self.old.text ++ self.old.spare } }
+    {
+        self.filled = 0;
+    }
+}
 
 // The digits of a number at the end of the bytes lent; where they begin.
 fn put_digits(digits: &mut [u8; MOST_DIGITS], n: u64) -> usize
@@ -24,40 +96,10 @@ fn put_digits(digits: &mut [u8; MOST_DIGITS], n: u64) -> usize
     0
 }
 
-// A number in decimal.
-pub fn put_decimal(out: &mut [u8], at: usize, n: u64) -> usize
-    requires { at + most_digits ≤ length out.old }
-    ensures { WroteMost most_digits (decimal n) at result out.old out.new }
-{
-    let mut digits = [0u8; MOST_DIGITS];
-    let from = put_digits(&mut digits, n);
-    put_word(out, at, &digits[from..])
-}
-
 // A digit below 16, in small letters.
 fn digit(d: u8) -> u8
     requires { d < 16 }
     ensures { result ≡ digit d }
 {
     if d < 10 { 48 + d } else { 87 + d }
-}
-
-// Bytes in hex.
-pub fn put_hex(out: &mut [u8], at: usize, bytes: &[u8]) -> usize
-    requires { at + 2 * length bytes.now ≤ length out.old }
-    ensures { WroteMost (2 * length bytes.now) (hex bytes.now) at result out.old out.new }
-{
-    for (i, b) in bytes.iter().enumerate() {
-        octets::put_bytes(out, at + 2 * i, &[digit(b / 16), digit(b % 16)]);
-    }
-    at + 2 * bytes.len()
-}
-
-// Bytes as they are.
-pub fn put_word(out: &mut [u8], at: usize, word: &[u8]) -> usize
-    requires { at + length word.now ≤ length out.old }
-    ensures { Wrote word.now at result out.old out.new }
-{
-    octets::put_bytes(out, at, word);
-    at + word.len()
 }

@@ -1,13 +1,11 @@
 -- A program by what it keeps beside the table, an S: what it tells of each call, what holds before and after each part of a turn, and
 -- what each part leaves.
 use Rattle.std.specs.Prelude.{ℕ, ◌+◌, ◌≤◌, ◌<◌, ◌≡◌, Bool, List, length}
-use Rattle.octets.specs.Runs.{paste}
-use Rattle.octets.specs.Writing.{WroteMost}
+use Rattle.text.specs.Page.{Page, put, Put}
 use Rattle.paper.specs.Room.{frame_room_size}
 use Rattle.call_outcomes.specs.Leaving.{call_made}
-use Rattle.turns.specs.Turns.{buffer_size, most_waiting, most_calls, unread, call_on, after_call, turn_after, after_turn, Fine, Ready}
+use Rattle.turns.specs.Turns.{buffer_size, most_waiting, most_calls, unread, call_on, after_call, turn_after, after_turn, Fine, Whole, Drained}
 use Rattle.turns.specs.declared.Turn.{Turn}
-use Rattle.turns.specs.declared.Printed.{Printed}
 
 -- Each is said of the table and the bytes that a call is lent, and of what is kept before it.
 pub record Teller (S : Type 0) : Type 1 where
@@ -35,60 +33,63 @@ module _ {S : Type 0} (p : Teller S) where
 
   -- ---- one call
 
-  -- what holds between calls, as much room as any call needs, and room for the text of a call
-  pub record CallRoom (table : List ℕ) (s : S) (room out : List ℕ) (at : ℕ) : Type 0 where
+  -- what holds between calls, as much room as any call needs, and room on the page for the text of a call
+  pub record CallRoom (table : List ℕ) (s : S) (room : List ℕ) (page : Page) : Type 0 where
     pub holds : p.holds table s
     pub roomy : length room ≡ frame_room_size
-    pub prints : at + p.most ≤ length out
+    pub prints : p.most ≤ length page.spare
 
-  -- the table is as the call leaves it, its text is written, and whether it counts as refused is told
-  pub record Tells (table bytes : List ℕ) (s : S) (out : List ℕ) (at n : ℕ) (table' : List ℕ) (s' : S) (out' : List ℕ) (r : Printed) : Type 0 where
+  -- the table is as the call leaves it, its text is put, and whether it counts as refused is told
+  pub record Tells (table bytes : List ℕ) (s : S) (page : Page) (n : ℕ) (table' : List ℕ) (s' : S) (page' : Page) (refused : Bool) : Type 0 where
     pub image : table' ≡ (call_made table bytes).image
     pub kept : s' ≡ p.kept table bytes s
     pub holds : p.holds table' s'
-    pub wrote : WroteMost p.most (p.text table bytes s n) at r.end out out'
-    pub told : r.refused ≡ p.refuses table bytes
+    pub wrote : Put p.most (p.text table bytes s n) page page'
+    pub told : refused ≡ p.refuses table bytes
 
-  -- ---- a turn: what holds between calls does, and its room and its buffers are whole
+  -- ---- a turn: what holds between calls does, and its room, its input and its page are whole
 
-  pub record Standing (table : List ℕ) (s : S) (room input output : List ℕ) (t : Turn) : Type 0 where
+  pub record Standing (table : List ℕ) (s : S) (room input : List ℕ) (page : Page) (t : Turn) : Type 0 where
     pub holds : p.holds table s
     pub roomy : length room ≡ frame_room_size
     pub reads : length input ≡ buffer_size
-    pub prints : length output ≡ buffer_size
+    pub prints : Whole page
     pub fine : Fine t
 
   -- with room for what a call prints
-  pub record AtTurn (table : List ℕ) (s : S) (room input output : List ℕ) (t : Turn) : Type 0 where
+  pub record AtTurn (table : List ℕ) (s : S) (room input : List ℕ) (page : Page) (t : Turn) : Type 0 where
     pub holds : p.holds table s
     pub roomy : length room ≡ frame_room_size
     pub reads : length input ≡ buffer_size
-    pub prints : length output ≡ buffer_size
-    pub ready : Ready t
+    pub prints : Drained page
+    pub fine : Fine t
 
   -- and a number for it
-  pub record AtCall (table : List ℕ) (s : S) (room input output : List ℕ) (t : Turn) : Type 0 where
-    pub turn : AtTurn table s room input output t
+  pub record AtCall (table : List ℕ) (s : S) (room input : List ℕ) (page : Page) (t : Turn) : Type 0 where
+    pub turn : AtTurn table s room input page t
     pub numbered : t.calls < most_calls
 
   -- ---- what is left: after the call of a turn, after the turn, and after any turns
 
-  pub record Called (table : List ℕ) (s : S) (input output : List ℕ) (t : Turn) (table' : List ℕ) (s' : S) (output' : List ℕ) (r : Turn) : Type 0 where
-    pub is : r ≡ after_call input (t.filled + length (text_on table s input t)) (refused_on table input t) t
+  pub record Called (table : List ℕ) (s : S) (input : List ℕ) (page : Page) (t : Turn) (table' : List ℕ) (s' : S) (page' : Page) (r : Turn) : Type 0 where
+    pub is : r ≡ after_call input (refused_on table input t) t
     pub fine : Fine r
+    pub prints : Whole page'
     pub holds : p.holds table' s'
     pub image : table' ≡ (call_on table input t).image
     pub kept : s' ≡ p.kept table (unread input t) s
-    pub stands : output' ≡ paste output t.filled (text_on table s input t)
+    pub stands : page' ≡ put page (text_on table s input t)
 
-  pub record Turned (table : List ℕ) (s : S) (input output : List ℕ) (t : Turn) (table' : List ℕ) (s' : S) (output' : List ℕ) (r : Turn) : Type 0 where
-    pub is : r ≡ turn_after input (text_on table s input t) (refused_on table input t) t
+  pub record Turned (table : List ℕ) (s : S) (input : List ℕ) (page : Page) (t : Turn) (table' : List ℕ) (s' : S) (page' : Page) (r : Turn) : Type 0 where
+    pub is : r ≡ turn_after input (refused_on table input t) t
     pub fine : Fine r
+    pub prints : Whole page'
     pub holds : p.holds table' s'
     pub image : table' ≡ after_turn t table (call_on table input t).image
     pub kept : s' ≡ after_turn t s (p.kept table (unread input t) s)
-    pub stands : output' ≡ after_turn t output (paste output t.filled (text_on table s input t))
+    pub stands : page' ≡ after_turn t page (put page (text_on table s input t))
 
-  pub record Kept (table : List ℕ) (s : S) (t : Turn) : Type 0 where
+  pub record Kept (table : List ℕ) (s : S) (page : Page) (t : Turn) : Type 0 where
     pub fine : Fine t
+    pub prints : Whole page
     pub holds : p.holds table s

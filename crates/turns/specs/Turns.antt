@@ -4,6 +4,7 @@ use Rattle.std.specs.Prelude.{ℕ, ◌+◌, ◌-◌, ◌≤◌, ◌<◌, ◌≡�
 use Rattle.ledger.specs.Choice.{both, either, ◌⇒◌∣◌}
 use Rattle.ledger.specs.Tally.{one_if}
 use Rattle.octets.specs.Runs.{part}
+use Rattle.text.specs.Page.{Page}
 use Rattle.paper.specs.RecordsIn.{pair_size, record_size}
 use Rattle.call_outcomes.specs.Leaving.{Left, call_made}
 use Rattle.turns.specs.declared.Turn.{Turn}
@@ -25,12 +26,11 @@ abbrev pub most_calls : ℕ
 most_calls = 18446744073709551615
 
 -- Nothing is read and nothing counted.
-abbrev pub first_turn : ℕ → Turn
-first_turn filled = record {
+abbrev pub first_turn : Turn
+first_turn = record {
   start = 0;
   end = 0;
   ended = false;
-  filled = filled;
   calls = 0;
   refused = 0;
   going = true;
@@ -59,46 +59,40 @@ stopping t = record {
   start = t.start;
   end = t.end;
   ended = t.ended;
-  filled = t.filled;
   calls = t.calls;
   refused = t.refused;
   going = false;
 }
 
--- The call is counted, and the output filled as far as its text reaches. Reading goes on behind the record, or ends there.
-abbrev pub after_call : List ℕ → ℕ → Bool → Turn → Turn
-after_call input filled refused t = record {
+-- The call is counted. Reading goes on behind the record, or ends there.
+abbrev pub after_call : List ℕ → Bool → Turn → Turn
+after_call input refused t = record {
   start = t.start + record_size (unread input t);
   end = t.end;
   ended = t.ended;
-  filled = filled;
   calls = t.calls + 1;
   refused = t.refused + one_if refused;
   going = ltb 0 (record_size (unread input t));
 }
 
--- A turn with a call that prints this text.
-unfoldable pub turn_after : List ℕ → List ℕ → Bool → Turn → Turn
-turn_after input text refused t = waits t ⇒ t ∣ is_over t ⇒ stopping t ∣ after_call input (t.filled + length text) refused t
+-- A turn with a call, or without one.
+unfoldable pub turn_after : List ℕ → Bool → Turn → Turn
+turn_after input refused t = waits t ⇒ t ∣ is_over t ⇒ stopping t ∣ after_call input refused t
 
--- What only a call changes stays as it was in a turn without one: the table, the output, what is kept of the calls.
+-- What only a call changes stays as it was in a turn without one: the table, what is printed, what is kept of the calls.
 unfoldable pub after_turn : {A : Type 0} → Turn → A → A → A
 after_turn t before after = waits t ⇒ before ∣ is_over t ⇒ before ∣ after
 
--- ---- what holds between two turns: where the program stands in its buffers
+-- ---- what holds between two turns: where the program stands in its input, and the page that it prints on
 
 pub record Fine (t : Turn) : Type 0 where
   pub order : t.start ≤ t.end
   pub within : t.end ≤ buffer_size
-  pub fits : t.filled ≤ buffer_size
   pub counted : t.refused ≤ t.calls
 
--- with room for what a call prints
-pub record Ready (t : Turn) : Type 0 where
-  pub order : t.start ≤ t.end
-  pub within : t.end ≤ buffer_size
-  pub fits : t.filled ≤ most_waiting
-  pub counted : t.refused ≤ t.calls
+-- a page over a buffer
+abbrev pub Whole : Page → Type 0
+Whole p = length p.text + length p.spare ≡ buffer_size
 
 -- a turn that is this one
 pub record FineAs (t r : Turn) : Type 0 where
@@ -110,11 +104,10 @@ pub record Buffer (bytes : List ℕ) (t : Turn) : Type 0 where
   pub long : length bytes ≡ buffer_size
   pub fine : Fine t
 
--- the input, what the output is filled to, and a number for one call more
-pub record CallMade (input : List ℕ) (filled : ℕ) (t : Turn) : Type 0 where
+-- the input, and a number for one call more
+pub record CallMade (input : List ℕ) (t : Turn) : Type 0 where
   pub long : length input ≡ buffer_size
-  pub fits : filled ≤ buffer_size
-  pub ready : Ready t
+  pub fine : Fine t
   pub numbered : t.calls < most_calls
 
 -- some bytes of a buffer, no more than the longest record has with its data
@@ -128,15 +121,10 @@ pub record Rest (n from : ℕ) (buffer : List ℕ) : Type 0 where
 pub record Fed (input : List ℕ) (t : Turn) (input' : List ℕ) (t' : Turn) : Type 0 where
   pub fine : Fine t'
   pub kept : take (t.end - t.start) (unread input' t') ≡ unread input t
-  pub filled : t'.filled ≡ t.filled
   pub calls : t'.calls ≡ t.calls
   pub refused : t'.refused ≡ t.refused
 
--- Writing out makes room, and changes nothing of what is read and counted.
-pub record Drained (t t' : Turn) : Type 0 where
-  pub ready : Ready t'
-  pub start : t'.start ≡ t.start
-  pub end : t'.end ≡ t.end
-  pub ended : t'.ended ≡ t.ended
-  pub calls : t'.calls ≡ t.calls
-  pub refused : t'.refused ≡ t.refused
+-- Writing out makes room for what a call prints.
+pub record Drained (p : Page) : Type 0 where
+  pub whole : Whole p
+  pub fits : length p.text ≤ most_waiting

@@ -2,16 +2,17 @@
 // it reads on and writes out.
 #![tactic(auto)]
 
-ghost use Rattle.std.specs.Prelude.{◌≡◌, ◌+◌, ◌<◌, ◌≤◌, List, ℕ, false, length};
+ghost use Rattle.std.specs.Prelude.{◌≡◌, ◌<◌, ◌≤◌, List, ℕ, false, length};
 ghost use Rattle.octets.specs.Runs.{part, paste};
-ghost use Rattle.octets.specs.Writing.{WroteMost};
+ghost use Rattle.text.specs.Page.{Put};
 ghost use Rattle.paper.specs.Base.{fresh};
 ghost use Rattle.table_image.specs.Layout.{image_of};
 ghost use Rattle.turns.specs.Turns.{buffer_size, most_text, most_calls, first_turn, waits, is_over, after_call};
-ghost use Rattle.turns.specs.Turns.{Ready, FineAs, Buffer, CallMade, Rest, Fed, Drained};
+ghost use Rattle.turns.specs.Turns.{Fine, FineAs, Buffer, CallMade, Rest, Fed, Whole, Drained};
 ghost use Rattle.turns.specs.Programs.{Teller, CallRoom, Tells, Standing, AtTurn, AtCall, Called, Turned, Kept};
 
 use std::io::{self, Read, Write};
+use text::Page;
 
 // A buffer of the program.
 const BUFFER_SIZE: usize = 163840;
@@ -20,49 +21,40 @@ const MOST_WAITING: usize = 45000;
 // 64 bits count no more.
 const MOST_CALLS: u64 = u64::MAX;
 
-// A call that was made and printed: where its text ends, and whether it was refused.
-#[derive(Clone, Copy)]
-pub struct Printed {
-    pub end: usize,
-    pub refused: bool,
-}
-
 // A program by what it keeps beside the table.
 pub trait Program {
     ghost tells: { Teller Self };
 
     // The first line.
-    fn put_title(out: &mut [u8]) -> usize
-        requires { length out.old ≡ buffer_size }
-        ensures { WroteMost buffer_size tells.title 0 result out.old out.new };
+    fn put_title(page: &mut Page)
+        requires { length page.old.spare ≡ buffer_size }
+        ensures { Put buffer_size tells.title page.old page.new };
 
-    // One call, and its text from a place of the output on.
+    // One call, and its text behind what is printed already; whether it was refused.
     fn call(
         &mut self,
         table: &mut [u8],
         bytes: &[u8],
         room: &mut [u8],
-        out: &mut [u8],
-        at: usize,
+        page: &mut Page,
         n: u64,
-    ) -> Printed
-        requires { CallRoom tells table.old self.old room.old out.old at }
-        ensures { Tells tells table.old bytes.now self.old out.old at n table.new self.new out.new result };
+    ) -> bool
+        requires { CallRoom tells table.old self.old room.old page.old }
+        ensures { Tells tells table.old bytes.now self.old page.old n table.new self.new page.new result };
 
     // The last line.
-    fn put_closing(&self, out: &mut [u8], at: usize, calls: u64, refused: u64) -> usize
-        requires { at + most_text ≤ length out.old }
-        ensures { WroteMost most_text (tells.closing self.now calls refused) at result out.old out.new };
+    fn put_closing(&self, page: &mut Page, calls: u64, refused: u64)
+        requires { most_text ≤ length page.old.spare }
+        ensures { Put most_text (tells.closing self.now calls refused) page.old page.new };
 }
 
-// Where the bytes not yet read stand in the input, whether there are more to come, and how much of the output is filled;
-// how many calls were made, and how many refused; whether to go on.
+// Where the bytes not yet read stand in the input, and whether there are more to come; how many calls were made, and how many
+// refused; whether to go on.
 #[derive(Clone, Copy)]
 pub struct Turn {
     pub start: usize,
     pub end: usize,
     pub ended: bool,
-    pub filled: usize,
     pub calls: u64,
     pub refused: u64,
     pub going: bool,
@@ -79,16 +71,14 @@ fn shift(buf: &mut [u8], from: usize, n: usize)
 }
 
 impl Turn {
-    // Nothing is read and nothing counted; the output may have a first line.
-    fn first(filled: usize) -> Turn
-        requires { filled ≤ buffer_size }
-        ensures { FineAs (first_turn filled) result }
+    // Nothing is read and nothing counted.
+    fn first() -> Turn
+        ensures { FineAs first_turn result }
     {
         Turn {
             start: 0,
             end: 0,
             ended: false,
-            filled,
             calls: 0,
             refused: 0,
             going: true,
@@ -114,22 +104,9 @@ impl Turn {
         Ok(())
     }
 
-    // Output to be written, where little room is left.
-    fn drain<W: Write>(&mut self, writer: &mut W, output: &[u8]) -> io::Result<()>
-        requires { Buffer output.now self.old }
-        ensures { Drained self.old self.new }
-    {
-        let filled = self.filled;
-        if filled <= MOST_WAITING {
-            return Ok(());
-        }
-        self.filled = 0;
-        writer.write_all(&output[..filled])
-    }
-
     // A record may be cut, and more bytes may come.
     fn waits(self) -> bool
-        requires { Ready self }
+        requires { Fine self }
         ensures { result ≡ waits self }
     {
         self.end - self.start < paper::PAIR_SIZE && !self.ended
@@ -137,25 +114,37 @@ impl Turn {
 
     // No bytes are left, or no numbers to count calls with.
     fn is_over(self) -> bool
-        requires { Ready self }
+        requires { Fine self }
         ensures is { result ≡ is_over self }
         ensures numbered { result ≡ false → self.calls < most_calls }
     {
         self.end - self.start == 0 || self.calls == MOST_CALLS
     }
 
-    // A call was made on what is not read yet: how far its text fills the output, and whether it was refused.
-    fn after_call(&mut self, input: &[u8], printed: Printed)
-        requires { CallMade input.now printed.end self.old }
-        ensures { FineAs (after_call input.now printed.end printed.refused self.old) self.new }
+    // A call was made on what is not read yet, and was refused or not.
+    fn after_call(&mut self, input: &[u8], refused: bool)
+        requires { CallMade input.now self.old }
+        ensures { FineAs (after_call input.now refused self.old) self.new }
     {
         let size = wire_records::record_size(&input[self.start..self.end]);
         self.start += size;
-        self.filled = printed.end;
         self.calls += 1;
-        self.refused += u64::from(printed.refused);
+        self.refused += u64::from(refused);
         self.going = 0 < size;
     }
+}
+
+// What is printed to be written out, where little room is left on the page.
+fn drain<W: Write>(page: &mut Page, writer: &mut W) -> io::Result<()>
+    requires { Whole page.old }
+    ensures { Drained page.new }
+{
+    if page.text().len() <= MOST_WAITING {
+        return Ok(());
+    }
+    let written = writer.write_all(page.text());
+    page.clear();
+    written
 }
 
 // The call on what is not read yet, and its text behind what is printed already.
@@ -164,15 +153,15 @@ fn called<P: Program>(
     table: &mut [u8],
     room: &mut [u8],
     input: &[u8],
-    output: &mut [u8],
+    page: &mut Page,
     t: &mut Turn,
 )
-    requires { AtCall P.tells table.old program.old room.old input.now output.old t.old }
-    ensures { Called P.tells table.old program.old input.now output.old t.old table.new program.new output.new t.new }
+    requires { AtCall P.tells table.old program.old room.old input.now page.old t.old }
+    ensures { Called P.tells table.old program.old input.now page.old t.old table.new program.new page.new t.new }
 {
     let bytes = &input[t.start..t.end];
-    let printed = program.call(table, bytes, room, output, t.filled, t.calls + 1);
-    t.after_call(input, printed);
+    let refused = program.call(table, bytes, room, page, t.calls + 1);
+    t.after_call(input, refused);
 }
 
 // A call is made where a whole record may stand in the input, or no more is to come. Reading ends behind the last record, and
@@ -182,11 +171,11 @@ fn turned<P: Program>(
     table: &mut [u8],
     room: &mut [u8],
     input: &[u8],
-    output: &mut [u8],
+    page: &mut Page,
     t: &mut Turn,
 )
-    requires { AtTurn P.tells table.old program.old room.old input.now output.old t.old }
-    ensures { Turned P.tells table.old program.old input.now output.old t.old table.new program.new output.new t.new }
+    requires { AtTurn P.tells table.old program.old room.old input.now page.old t.old }
+    ensures { Turned P.tells table.old program.old input.now page.old t.old table.new program.new page.new t.new }
 {
     if t.waits() {
         return;
@@ -195,7 +184,7 @@ fn turned<P: Program>(
         t.going = false;
         return;
     }
-    called(program, table, room, input, output, t);
+    called(program, table, room, input, page, t);
 }
 
 fn one_turn<P: Program, R: Read, W: Write>(
@@ -205,15 +194,15 @@ fn one_turn<P: Program, R: Read, W: Write>(
     table: &mut [u8],
     room: &mut [u8],
     input: &mut [u8],
-    output: &mut [u8],
+    page: &mut Page,
     t: &mut Turn,
 ) -> io::Result<()>
-    requires { Standing P.tells table.old program.old room.old input.old output.old t.old }
-    ensures { Kept P.tells table.new program.new t.new }
+    requires { Standing P.tells table.old program.old room.old input.old page.old t.old }
+    ensures { Kept P.tells table.new program.new page.new t.new }
 {
     t.feed(reader, input)?;
-    t.drain(writer, output)?;
-    turned(program, table, room, input, output, t);
+    drain(page, writer)?;
+    turned(program, table, room, input, page, t);
     Ok(())
 }
 
@@ -225,17 +214,17 @@ fn run<P: Program, R: Read, W: Write>(
     table: &mut [u8],
     room: &mut [u8],
     input: &mut [u8],
-    output: &mut [u8],
+    page: &mut Page,
     t: &mut Turn,
 ) -> io::Result<()>
-    requires { Standing P.tells table.old program.old room.old input.old output.old t.old }
-    ensures { Kept P.tells table.new program.new t.new }
+    requires { Standing P.tells table.old program.old room.old input.old page.old t.old }
+    ensures { Kept P.tells table.new program.new page.new t.new }
 {
     for _ in 0..MOST_CALLS {
         if !t.going {
             break;
         }
-        one_turn(program, reader, writer, table, room, input, output, t)?;
+        one_turn(program, reader, writer, table, room, input, page, t)?;
     }
     Ok(())
 }
@@ -255,22 +244,17 @@ pub fn tell<P: Program, R: Read, W: Write>(
     let mut room = [0u8; paper::FRAME_ROOM_SIZE];
     let mut input = [0u8; BUFFER_SIZE];
     let mut output = [0u8; BUFFER_SIZE];
-    let mut t = Turn::first(P::put_title(&mut output));
+    let mut page = Page::new(&mut output);
+    P::put_title(&mut page);
+    let mut t = Turn::first();
     let ran = run(
-        program,
-        reader,
-        writer,
-        &mut table,
-        &mut room,
-        &mut input,
-        &mut output,
-        &mut t,
+        program, reader, writer, &mut table, &mut room, &mut input, &mut page, &mut t,
     );
     if ran.is_err() {
-        let _ = writer.write_all(&output[..t.filled]);
+        let _ = writer.write_all(page.text());
         return ran;
     }
-    t.drain(writer, &output)?;
-    let end = program.put_closing(&mut output, t.filled, t.calls, t.refused);
-    writer.write_all(&output[..end])
+    drain(&mut page, writer)?;
+    program.put_closing(&mut page, t.calls, t.refused);
+    writer.write_all(page.text())
 }

@@ -1,10 +1,9 @@
 -- Each kind of line has its own text in the definition too, and three of them none; a stream without a page has none either.
-use native.Mathlib.Omega.{arith}
 use borrow.Author.Rules.{rules}
 use mathlib.Core.Path.{◌≡◌}
 use mathlib.Core.List.{[]}
 use Rattle.ledger.specs.Choice.{◌⇒◌∣◌}
-use Rattle.octets.proofs.Writing.{wrote_nothing, wrote-most}
+use Rattle.text.proofs.Putting.{none_put}
 use Rattle.fates_report.specs.Report.{line_text}
 use Rattle.fates_report.proofs.put_line.Goals as goal
 
@@ -12,18 +11,16 @@ pub returns-in-Began : goal.returns-in-Began
 unfolding line_text ◌⇒◌∣◌
 returns-in-Began c = rw (c.in-Began.is, ← c.if-has_page.ensures) c.put_end.ensures
 
-pub returns-in_default : goal.returns-in_default
+pub returns-else-has_page : goal.returns-else-has_page
 unfolding line_text ◌⇒◌∣◌
-returns-in_default c =
-    rw (c.in-Began.is, ← c.if-has_page.ensures) (wrote-most (omega arith) (wrote_nothing c.args.out.now c.args.at))
+returns-else-has_page c = rw (c.in-Began.is, ← c.if-has_page.ensures) (none_put _ _)
 
-pub returns-in_default-2 : goal.returns-in_default-2
+pub returns-else-has_page-2 : goal.returns-else-has_page-2
 unfolding line_text ◌⇒◌∣◌
-returns-in_default-2 c =
-    rw (c.in-Went.is, ← c.if-has_page-2.ensures) (wrote-most (omega arith) (wrote_nothing c.args.out.now c.args.at))
+returns-else-has_page-2 c = rw (c.in-Went.is, ← c.if-has_page-2.ensures) (none_put _ _)
 
-pub returns-in_default-3 : goal.returns-in_default-3
+pub returns : goal.returns
 unfolding line_text
-returns-in_default-3 c =
+returns c =
     let none : line_text c.args.y c.args.register.now ≡ [] = search rules in
-    rw none (wrote-most (omega arith) (wrote_nothing c.args.out.now c.args.at))
+    rw none (none_put _ _)

@@ -17,16 +17,15 @@ loop-rest-init c =
     record {
       uncut = λ h. omega arith;
       few = omega arith;
-      long = refl;
       whole = refl;
-      left = all_telling a.out.now a.at a.q a.written.now a.register.now;
+      left = all_telling a.page.now a.q a.written.now a.register.now;
     }
 
-pub tell-e-requires : goal.tell-e-requires
-tell-e-requires c =
+pub tell-requires : goal.tell-requires
+tell-requires c =
     let l = c.loop-rest in
     let some : 0 < length l.rest.now = omega (arith, eqb-false (length l.rest.now) 0 (sym c.loop-rest-test.ensures)) in
-    record { long = omega arith; room = omega (arith, l.invariant.uncut some, l.invariant.long) }
+    record { long = omega arith; room = omega (arith, l.invariant.uncut some, c.requires.lent.room) }
 
 pub loop-rest-smaller : goal.loop-rest-smaller
 loop-rest-smaller c =
@@ -45,7 +44,7 @@ loop-rest-preserved c =
     let l = c.loop-rest in
     let rest = l.rest.now in
     let line = c.line_at in
-    let text = c.tell-e.ensures in
+    let text = c.tell.ensures in
     let size = size_out (get_or rest 0 0) in
     let sized = size-within (get_or rest 0 0) in
     let shorter = length-drop size rest in
@@ -53,10 +52,9 @@ loop-rest-preserved c =
     let most : length (line_text line.result l.register) ≤ per_byte * size = rw line.ensures (said_most c.args.q rest l.register) in
     rw c.behind_first-rest.ensures (record {
       uncut = λ h. omega (arith, text.wrote.ends, most, l.invariant.uncut some, shorter);
-      few = omega (arith, text.wrote.ends, most, l.invariant.uncut some, sized);
-      long = search rules;
+      few = omega (arith, text.wrote.ends, most, l.invariant.uncut some, sized, c.requires.short);
       whole = search rules;
-      left = less-telling line.result l.invariant.left some (omega (arith, l.invariant.few, l.invariant.long)) line.ensures text;
+      left = less-telling line.result l.invariant.left some line.ensures text;
     })
 
 pub returns : goal.returns

@@ -3,21 +3,21 @@ use Prim.Native.Nat.{ℕ, ◌+◌, ◌*◌, ◌≤◌, ◌<◌}
 use mathlib.Core.Path.{◌≡◌}
 use mathlib.Core.List.{List}
 use lib.ListN.{length}
+use Rattle.text.specs.Page.{Page}
 use Rattle.paper.specs.declared.Input.{Input}
 use Rattle.fates_book.specs.Lines.{lines_in}
 use Rattle.fates_report.specs.Report.{per_byte, records_size}
 use Rattle.fates_report.proofs.Laws.{StillTelling}
 use Rattle.fates_report.proofs.tell_records.Given as goal
 
-pub record ToTell (register₀ out₀ : List ℕ) (at : ℕ) (q : Input) (written register out : List ℕ) (e : ℕ) (rest : List ℕ) : Type 0 where
-  pub uncut : 0 < length rest → e + per_byte * length rest ≤ at + per_byte * length written
-  pub few : e ≤ at + records_size
-  pub long : length out ≡ length out₀
+pub record ToTell (register₀ : List ℕ) (first : Page) (q : Input) (written register : List ℕ) (page : Page) (rest : List ℕ) : Type 0 where
+  pub uncut : 0 < length rest → length first.spare + per_byte * length rest ≤ length page.spare + per_byte * length written
+  pub few : length first.spare ≤ length page.spare + records_size
   pub whole : length register ≡ length register₀
-  pub left : StillTelling out₀ at (lines_in (length written) q written) register₀ q rest out e register
+  pub left : StillTelling first (lines_in (length written) q written) register₀ q rest page register
 
 abbrev pub invariant-loop-rest : goal.invariant-loop-rest
-invariant-loop-rest l = ToTell l.initial.register l.initial.out l.at l.q l.written l.register l.out l.e l.rest
+invariant-loop-rest l = ToTell l.initial.register l.initial.page l.q l.written l.register l.page l.rest
 
 abbrev pub decreases-loop-rest : goal.decreases-loop-rest
 decreases-loop-rest l = length l.rest

@@ -10,6 +10,7 @@ returns-then-waits g c =
     record {
       is = rw (← c.waits.ensures, c.if-waits.true);
       fine = search rules;
+      prints = c.requires.prints.whole;
       holds = c.requires.holds;
       image = rw (← c.waits.ensures, c.if-waits.true);
       kept = rw (← c.waits.ensures, c.if-waits.true);
@@ -22,6 +23,7 @@ returns-then-is_over g c =
     record {
       is = rw (← c.waits.ensures, c.if-waits.false, ← c.is_over.ensures.is, c.if-is_over.true);
       fine = search rules;
+      prints = c.requires.prints.whole;
       holds = c.requires.holds;
       image = rw (← c.waits.ensures, c.if-waits.false, ← c.is_over.ensures.is, c.if-is_over.true);
       kept = rw (← c.waits.ensures, c.if-waits.false, ← c.is_over.ensures.is, c.if-is_over.true);
@@ -38,6 +40,7 @@ returns g c =
     record {
       is = rw (← c.waits.ensures, c.if-waits.false, ← c.is_over.ensures.is, c.if-is_over.false) left.is;
       fine = left.fine;
+      prints = left.prints;
       holds = left.holds;
       image = rw (← c.waits.ensures, c.if-waits.false, ← c.is_over.ensures.is, c.if-is_over.false) left.image;
       kept = rw (← c.waits.ensures, c.if-waits.false, ← c.is_over.ensures.is, c.if-is_over.false) left.kept;

@@ -4,7 +4,7 @@ use native.Mathlib.Omega.{arith}
 use Prim.Native.Nat.{ℕ}
 use mathlib.Core.Path.{◌≡◌, refl, sym, ap, subst, ◌∙◌}
 use mathlib.Core.List.{List}
-use Rattle.octets.proofs.Writing.{wrote-same}
+use Rattle.text.proofs.Putting.{put_as}
 use Rattle.call_outcomes.specs.Leaving.{Left, token_in, call_made}
 use Rattle.call_outcomes.proofs.Rooms.{SameBack, made_in}
 use Rattle.fates_book.specs.declared.Line.{Line}
@@ -31,13 +31,13 @@ returns c =
     subst (λ (l : Left). SameBack l made) (sym c.call_sound.ensures) (made_in a.table.now a.bytes.now a.room.now c.requires.roomy) in
     let number = ap (λ (k : ℕ). lines_told a.bytes.now k c.call_sound.new.room) c.call_number-answer.ensures in
     let lines = number ∙ same_lines a.bytes.now _ made same in
-    let told = c.tell_call-end.ensures in
+    let told = c.tell_call.ensures in
     let entered = told.entered ∙ ap (λ (ys : List Line). entered_all ys register) lines in
     let next = told-next a.table.now register a.bytes.now c.requires.holds (λ k. omega (arith, c.type_inv.bytes k)) in
     record {
       image = same.image;
       kept = λ i. record { register = entered i };
       holds = rw (same.image, entered) next;
-      wrote = wrote-same (ap (λ (ys : List Line). all_text ys register) lines) told.wrote;
+      wrote = put_as (ap (λ (ys : List Line). all_text ys register) lines) told.wrote;
       told = refl;
     }

@@ -5,7 +5,7 @@ use native.Mathlib.Omega.{arith}
 use mathlib.Core.Path.{◌≡◌, refl, sym, ap, subst, ◌∙◌}
 use lib.Dec.{ltb}
 use lib.ListN.{take, replicate}
-use Rattle.octets.proofs.Writing.{wrote-same}
+use Rattle.text.proofs.Putting.{put_as}
 use Rattle.paper.specs.Room.{frame_room_size}
 use Rattle.table_image.specs.Layout.{sound_image}
 use Rattle.call_outcomes.specs.Leaving.{Left, refusal_in, call_made}
@@ -33,7 +33,7 @@ returns c =
       kept = refl;
       holds = ap sound_image same.image ∙ kept;
       wrote =
-          wrote-same (ap (λ (k : ℕ). call_text a.n k c.call_sound-answer.new.room) c.call_number-number.ensures ∙ same_text a.n _ made same)
-          c.put_call-end.ensures;
+          put_as (ap (λ (k : ℕ). call_text a.n k c.call_sound-answer.new.room) c.call_number-number.ensures ∙ same_text a.n _ made same)
+          c.put_call.ensures;
       told = c.is_refused.ensures ∙ ap (λ (k : ℕ). ltb 0 (refusal_in k)) same.number;
     }

@@ -30,13 +30,12 @@ returns c =
     let input = a.input.now in
     let t = a.self.now in
     let size = c.record_size-size.ensures in
-    let more = c.from.ensures ∙ byte_one a.printed.refused in
+    let more = c.from.ensures ∙ byte_one a.refused in
     record {
       is = λ i. record {
         start = t.start + size i;
         end = t.end;
         ended = t.ended;
-        filled = a.printed.end;
         calls = t.calls + 1;
         refused = t.refused + more i;
         going = ltb 0 (size i);
@@ -44,7 +43,6 @@ returns c =
       fine = record {
         order = omega (arith, size, record_within (unread input t), length-take (t.end - t.start) (drop t.start input));
         within = search rules;
-        fits = search rules;
-        counted = omega (arith, more, one_most a.printed.refused);
+        counted = omega (arith, more, one_most a.refused);
       };
     }
