@@ -223,7 +223,11 @@ pub fn lowest_free(img: &[u8]) -> Option<u8>
     ensures { PlaceOf stream_total (lowest_free (table_of img.now)) result }
 {
     let i = u16::trailing_zeros(mask_in(img)) as u8;
-    if i < STREAM_TOTAL as u8 { Some(i) } else { None }
+    if i < STREAM_TOTAL as u8 {
+        Some(i)
+    } else {
+        None
+    }
 }
 
 // A closed stream is zero, as one just opened is; the table remembers the opening.
