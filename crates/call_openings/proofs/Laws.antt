@@ -1,17 +1,15 @@
 -- Laws of opening and closing: the lowest free stream by the count of the free ones, what an opening leaves, the bytes of
 -- a run of goodbyes.
-use Prim.Native.Nat.{ℕ, suc, ◌+◌, ◌*◌, ◌≤◌, ◌<◌}
+use Prim.Native.Nat.{ℕ, suc, ◌+◌, ◌*◌, ◌<◌}
 use native.Mathlib.Omega.{arith}
-use mathlib.Core.Path.{◌≡◌, refl, sym, ap, ◌∙◌}
-use mathlib.Core.Bool.{Bool, true, false, not}
+use mathlib.Core.Path.{◌≡◌, sym, ap, ◌∙◌}
+use mathlib.Core.Bool.{Bool, false, not}
 use mathlib.Core.List.{List, [], ◌∷◌, ◌++◌, map, map-append}
 use lib.ListN.{length, get_or, take}
 use lib.Seq.{take-suc}
-use lib.Dec.{ltb}
-use borrow.Author.Tests.{ltb-true, ltb-false, not-true}
+use borrow.Author.Tests.{not-true}
 use Rattle.ledger.specs.Choice.{◌⇒◌∣◌}
-use Rattle.ledger.specs.Tally.{one_if, sum_of, first_of}
-use Rattle.ledger.proofs.Tallies.{first_holds, first_none, none_first}
+use Rattle.ledger.proofs.Tallies.{first_holds}
 use Rattle.ledger.proofs.Lists.{joined_append}
 use Rattle.paper.specs.Base.{Slot, Table, slot, closed, lowest_free, stream_total}
 use Rattle.paper.specs.RecordsOut.{Record, order, bytes_of, all_bytes}
