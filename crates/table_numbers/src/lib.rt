@@ -195,8 +195,9 @@ pub fn remove_number(img: &mut [u8], i: usize, s: Stream, n: Correlation)
     requires { LentAt i img.old }
     ensures { img.new ≡ image_of (with_numbers (table_of img.old) i s (without n.0 (waiting (table_of img.old) i))) }
 {
-    if let Some(k) = number_place(LentTable { image: img }, i, n) {
-        let bytes = one_number_less(LentTable { image: img }, i, k);
+    let table = LentTable { image: img };
+    if let Some(k) = number_place(table, i, n) {
+        let bytes = one_number_less(table, i, k);
         put_slot(img, i, s, bytes);
     } else {
         table_image::store_stream(img, i, s);
