@@ -34,6 +34,8 @@ fn one_more(n: u64) -> u64
     n.saturating_add(1)
 }
 
+// (The register is lent as cells, since the definitions that the theorems on what is printed stand on are said of cells.)
+
 // Count k of a page is one more.
 fn raise(register: &mut [u64], page: usize, k: usize)
     requires { CellsOf page (k + 1) register.old }
@@ -66,7 +68,8 @@ fn first_place<F: Fn(u64, u64) -> bool>(register: &[u64], i: usize, is_it: F) ->
     end
 }
 
-// The cell of the first free place of stream i, or the cell behind its places.
+// The cell of the first free place of stream i, or the cell behind its places. (The definition's `first_free` and `place_of` are cells
+// where there is none, too: an indication is counted by how far they lie.)
 fn first_free(register: &[u64], i: usize) -> usize
     requires { OfStream i register.now }
     ensures { PlaceIn i (first_free i register.now) result }

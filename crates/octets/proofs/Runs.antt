@@ -6,7 +6,7 @@ use mathlib.Core.Bool.{true, ◌&&◌, and_assoc, and-true}
 use mathlib.Core.List.{List, [], ◌∷◌, ◌++◌, append_assoc, append-nil}
 use lib.Dec.{eqb, eqb-suc-zero, ltb}
 use borrow.Author.Tests.{eqb-true, ne_eqb, ltb-true, lt-ltb}
-use lib.ListN.{length, replicate, get_or, drop, take, drop_of_length-le, length-drop, length-take, length-append, take-append-drop}
+use lib.ListN.{length, replicate, get_or, drop, take, drop_of_length-le, length-drop, length-take, length-append}
 use native.Mathlib.Omega.{arith}
 use lib.Bits.{bit_or, or_add_and, and_le_r}
 use lib.Seq.{take_all, length-take-le, get_or-drop, take-add, drop-drop, get_or-take, drop_at, take_at, take-take}
@@ -122,14 +122,6 @@ paste_middle p old new q n e m =
 -- bytes written from place 0 on are the start
 pub paste_begins : (x w : List ℕ) (k : ℕ) → length w ≡ k → take k (paste x 0 w) ≡ w
 paste_begins x w k e = take_at w (drop (0 + length w) x) k e
-
--- nothing written
-pub paste-nothing : (x : List ℕ) (at : ℕ) → paste x at [] ≡ x
-paste-nothing x at =
-    let e : at + 0 ≡ at = omega arith in
-    ap (λ (l : List ℕ). l ++ drop (at + 0) x) (append-nil (take at x))
-    ∙ ap (λ (k : ℕ). take at x ++ drop k x) e
-    ∙ take-append-drop at x
 
 -- a run was written, and then another right behind it
 pub paste_then : {y z : List ℕ} {r : ℕ} (x : List ℕ) (at : ℕ) (p q : List ℕ) → at ≤ length x → y ≡ paste x at p → r ≡ at + length p → z ≡ paste y r q → z ≡ paste x at (p ++ q)

@@ -1,20 +1,15 @@
--- A text that is written piece by piece: each piece stands behind those before it, and what is still unwritten leads, from
--- where the writing stands, to the same whole.
+-- What is written piece by piece: each piece stands behind those before it.
 use Prim.Native.Nat.{ℕ, ◌+◌, ◌-◌, ◌≤◌}
 use native.Mathlib.Omega.{arith}
-use mathlib.Core.Path.{◌≡◌, refl, sym, ap, ap₂, ◌∙◌}
-use mathlib.Core.List.{List, [], ◌++◌}
+use mathlib.Core.Path.{◌≡◌, sym, ◌∙◌}
+use mathlib.Core.List.{List, ◌++◌}
 use lib.ListN.{length, length-append}
 use borrow.Rule.Slice.PartMut.{mid_of, put_mid}
 use Rattle.octets.specs.Runs.{paste, over}
 use Rattle.octets.specs.Writing.{Wrote, WroteMost}
-use Rattle.octets.proofs.Runs.{paste_join, paste-nothing, paste_then, paste-start, over-next}
+use Rattle.octets.proofs.Runs.{paste_then, paste-start, over-next}
 
 -- ---- one piece, and two
-
--- nothing was to be written
-pub wrote_nothing : (out : List ℕ) (at : ℕ) → Wrote [] at at out out
-wrote_nothing out at = record { ends = omega arith; stands = sym (paste-nothing out at) }
 
 -- a piece behind another
 pub wrote_then : {x y z p q : List ℕ} {at n e : ℕ} → at ≤ length x → Wrote p at n x y → Wrote q n e y z → Wrote (p ++ q) at e x z
@@ -59,30 +54,3 @@ pub wrote-next : {l x y : List ℕ} {n m : ℕ} (p q : List ℕ) → Wrote p 0 n
 wrote-next {l = l} {n = n} p q w v =
     let size : length p ≡ n = omega (arith, w.ends) in
     over-wrote (p ++ q) (omega (arith, length-append p q, w.ends, v.ends)) (over-next p q l n (wrote-over p w) size (wrote-over q v))
-
--- ---- a whole text, piece by piece
-
--- rest is unwritten, behind e
-pub record Unwritten (out₀ : List ℕ) (at : ℕ) (whole out : List ℕ) (e : ℕ) (rest : List ℕ) : Type 0 where
-  pub end : at + length whole ≡ e + length rest
-  pub text : paste out₀ at whole ≡ paste out e rest
-
--- nothing is written yet
-pub all_unwritten : (out : List ℕ) (at : ℕ) (whole : List ℕ) → Unwritten out at whole out at whole
-all_unwritten out at whole = record { end = refl; text = refl }
-
--- a piece was written
-pub less_unwritten : {out₀ : List ℕ} {at : ℕ} {whole out out' all : List ℕ} {e e' : ℕ} (p rest : List ℕ) → e ≤ length out
-    → Unwritten out₀ at whole out e all → all ≡ p ++ rest
-    → Wrote p e e' out out'
-    → Unwritten out₀ at whole out' e' rest
-less_unwritten {out₀} {at} {whole} {out} {out'} {all} {e} {e'} p rest h c q w = record {
-  end = omega (arith, c.end, ap length q, length-append p rest, w.ends);
-  text = c.text ∙ ap (paste out e) q ∙ paste_join out e p rest h ∙ ap₂ (λ (x : List ℕ) (y : ℕ). paste x y rest) (sym w.stands) (sym w.ends);
-}
-
--- all is written
-pub none_unwritten : {out₀ : List ℕ} {at : ℕ} {whole out rest : List ℕ} {e : ℕ} → Unwritten out₀ at whole out e rest → rest ≡ []
-    → Wrote whole at e out₀ out
-none_unwritten {out₀} {at} {whole} {out} {rest} {e} c q =
-    record { ends = omega (arith, c.end, ap length q); stands = sym (c.text ∙ ap (paste out e) q ∙ paste-nothing out e) }

@@ -1,19 +1,18 @@
 -- Laws of what replay prints: the fields of a line, lines one behind the other, and what a call's text is read from.
 use Prim.Native.Nat.{ℕ, zero, suc, ◌+◌, ◌-◌, ◌%◌, ◌≤◌, ◌<◌}
 use native.Mathlib.Omega.{arith}
-use mathlib.Core.Path.{◌≡◌, refl, ap}
+use mathlib.Core.Path.{◌≡◌, refl}
 use mathlib.Core.Bool.{true}
 use mathlib.Core.List.{List, [], ◌∷◌, ◌++◌}
 use lib.ListN.{length, get_or, take, drop}
 use Rattle.ledger.specs.Choice.{◌⇒◌∣◌}
-use Rattle.ledger.proofs.Tallies.{chosen, empty}
+use Rattle.ledger.proofs.Tallies.{chosen}
 use Rattle.octets.specs.Runs.{Bytes}
 use Rattle.octets.proofs.Runs.{part-most}
-use Rattle.text.specs.Digits.{hex}
 use Rattle.paper.specs.RecordsIn.{head_size, message_size, is_message}
 use Rattle.paper.specs.RecordsOut.{start_size, size_out}
 use Rattle.paper.proofs.Sizes.{size-within}
-use Rattle.replay_transcript.specs.Transcript.{shown_of, spaced, record_line, record_lines, call_text, shown_size, pair_size, record_line_size}
+use Rattle.replay_transcript.specs.Transcript.{shown_of, record_line, record_lines, call_text, shown_size, pair_size, record_line_size}
 
 -- ---- the fields of a line
 
@@ -29,13 +28,6 @@ line-most r b =
     chosen (λ (l : List ℕ). pair_size + shown_size l + 1 ≤ record_line_size r) _ _ _
     (λ e. omega (arith, part-most r head_size (get_or r 2 0), b 2, message_out k e))
     (λ e. omega (arith, part-most r start_size (size_out k - start_size), size-within k))
-
-pub spaced_none : (l : List ℕ) → length l ≡ 0 → spaced l ≡ []
-spaced_none l h = ap spaced (empty l h)
-
-pub spaced-some : (l : List ℕ) → (length l ≡ 0 → ⊥) → spaced l ≡ (32 ∷ []) ++ hex l
-spaced-some [] h = absurd (h refl)
-spaced-some (x ∷ l) h = refl
 
 -- ---- one line behind the other
 

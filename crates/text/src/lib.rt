@@ -80,7 +80,7 @@ impl<'a> Page<'a> {
     }
 }
 
-// The digits of a number at the end of the bytes lent; where they begin.
+// The digits of a number at the end of the bytes lent; where they begin. (std's `write!` doesn't promise to succeed.)
 fn put_digits(digits: &mut [u8; MOST_DIGITS], n: u64) -> usize
     ensures { DigitsFrom n result digits.new }
 {

@@ -61,7 +61,7 @@ fn is_pair(r: &[u8]) -> bool
 }
 
 // The size of the record at the start of the bytes, with its M where it has one, or 0 where its kind is unknown or its body
-// is cut.
+// is cut. (0 and not None, since that is what C is told.)
 pub fn record_size(r: &[u8]) -> usize
     ensures { result ≡ record_size r.now }
 {
