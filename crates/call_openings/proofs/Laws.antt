@@ -1,15 +1,17 @@
 -- Laws of opening and closing: the lowest free stream by the count of the free ones, what an opening leaves, the bytes of
 -- a run of goodbyes.
-use Prim.Native.Nat.{ℕ, suc, ◌+◌, ◌*◌, ◌<◌}
+use Prim.Native.Nat.{ℕ, suc, ◌+◌, ◌*◌, ◌≤◌, ◌<◌}
 use native.Mathlib.Omega.{arith}
-use mathlib.Core.Path.{◌≡◌, sym, ap, ◌∙◌}
-use mathlib.Core.Bool.{Bool, false, not}
+use mathlib.Core.Path.{◌≡◌, refl, sym, ap, ◌∙◌}
+use mathlib.Core.Bool.{Bool, true, false, not}
 use mathlib.Core.List.{List, [], ◌∷◌, ◌++◌, map, map-append}
 use lib.ListN.{length, get_or, take}
 use lib.Seq.{take-suc}
-use borrow.Author.Tests.{not-true}
+use lib.Dec.{ltb}
+use borrow.Author.Tests.{ltb-true, ltb-false, not-true}
 use Rattle.ledger.specs.Choice.{◌⇒◌∣◌}
-use Rattle.ledger.proofs.Tallies.{first_holds}
+use Rattle.ledger.specs.Tally.{one_if, sum_of, first_of}
+use Rattle.ledger.proofs.Tallies.{first_holds, first_none, none_first}
 use Rattle.ledger.proofs.Lists.{joined_append}
 use Rattle.paper.specs.Base.{Slot, Table, slot, closed, lowest_free, stream_total}
 use Rattle.paper.specs.RecordsOut.{Record, order, bytes_of, all_bytes}
@@ -26,6 +28,20 @@ use Rattle.call_outcomes.specs.Leaving.{left, leaving}
 
 abbrev is_free : Slot → Bool
 is_free x = not x.is_open
+
+-- n streams are free
+module _ (t : Table) (s : Shaped t) (n : ℕ) (e : n ≡ sum_of (λ (x : Slot). one_if (not x.is_open)) t.slots) where
+  pub none_free : n ≡ 0 → stream_total ≤ lowest_free t
+  unfolding lowest_free
+  none_free z = omega (arith, s.sixteen, none_first is_free t.slots (sym e ∙ z))
+
+  pub some-free : (n ≡ 0 → ⊥) → lowest_free t < stream_total
+  unfolding lowest_free
+  some-free h = go (ltb (first_of is_free t.slots) stream_total) refl
+    where
+      go : (b : Bool) → ltb (first_of is_free t.slots) stream_total ≡ b → first_of is_free t.slots < stream_total
+      go true q = ltb-true (first_of is_free t.slots) stream_total q
+      go false q = absurd (h (e ∙ first_none is_free t.slots (omega (arith, s.sixteen, ltb-false (first_of is_free t.slots) stream_total q))))
 
 -- it is not open
 pub free-shut : (t : Table) → Shaped t → (i : ℕ) → i ≡ lowest_free t → i < stream_total → (slot t i).is_open ≡ false

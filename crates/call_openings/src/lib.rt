@@ -44,11 +44,12 @@ pub fn open_stream(img: &mut [u8]) -> Result<Served, Refusal>
     requires { Openable img.old }
     ensures { (room : List ℕ) → left (call_number result) img.new room ≡ leaving img.old room (opens (table_of img.old)) }
 {
-    let Some(i) = table_image::lowest_free(img) else {
+    if table_image::free_total(img) == 0 {
         return Err(Refusal::AllOpen);
-    };
+    }
+    let i = table_image::lowest_free(img);
     table_image::open_slot(img, i as usize);
-    Ok(Served::Opened(i + 1))
+    Ok(Served::Opened(i as u8 + 1))
 }
 
 // A d with reason 0 for each open indication, the oldest first.

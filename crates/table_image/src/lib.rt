@@ -2,7 +2,6 @@
 #![tactic(auto)]
 
 ghost use Rattle.std.specs.Prelude.{not, ◌<◌, ◌≡◌, ◌+◌, ◌-◌, ◌^◌, length};
-ghost use Rattle.ledger.specs.Place.{PlaceOf};
 ghost use Rattle.ledger.specs.Tally.{one_if, sum_of};
 ghost use Rattle.paper.specs.Base.{stream_total, Slot, fresh, slot, stream, waiting, closed, just_opened, lowest_free, with_slot, with_stream, with_counter, with_ppa, remembering};
 ghost use Rattle.table_image.specs.Layout.{stream_from, mask_in, table_of, stream_bytes, image_of, slot_size};
@@ -217,17 +216,12 @@ pub fn free_total(img: &[u8]) -> u32
     u16::count_ones(mask_in(img))
 }
 
-// Opening takes the lowest free stream.
-pub fn lowest_free(img: &[u8]) -> Option<u8>
+// Opening takes the lowest free stream; 16 where none is free. (The paper has the mask's trailing zeros for it, which are 16 then.)
+pub fn lowest_free(img: &[u8]) -> u32
     requires { Lent img.now }
-    ensures { PlaceOf stream_total (lowest_free (table_of img.now)) result }
+    ensures { result ≡ lowest_free (table_of img.now) }
 {
-    let i = u16::trailing_zeros(mask_in(img)) as u8;
-    if i < STREAM_TOTAL as u8 {
-        Some(i)
-    } else {
-        None
-    }
+    u16::trailing_zeros(mask_in(img))
 }
 
 // A closed stream is zero, as one just opened is; the table remembers the opening.
