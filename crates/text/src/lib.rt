@@ -45,7 +45,7 @@ impl<'a> Page<'a> {
         self.filled += word.len();
     }
 
-    // A number in decimal.
+    // A number in decimal. (Its bytes are promised, and no `Display` promises its own; so with hex.)
     pub fn put_decimal(&mut self, n: u64)
         requires { most_digits ≤ length self.old.spare }
         ensures { Put most_digits (decimal n) self.old self.new }
@@ -70,6 +70,13 @@ impl<'a> Page<'a> {
         ensures { result.now ≡ self.now.text }
     {
         &self.bytes[..self.filled]
+    }
+
+    // The lent bytes, with the text at their start.
+    pub fn into_bytes(self) -> &'a mut [u8]
+        ensures { result.now ≡ self.entry.text ++ self.entry.spare }
+    {
+        self.bytes
     }
 
     // The text is gone, and all bytes may be filled anew.
