@@ -10,7 +10,8 @@ use borrow.Author.Tests.{eqb-true, eq-eqb, ne_eqb}
 use Rattle.ledger.specs.Choice.{◌⇒◌∣◌}
 use Rattle.ledger.proofs.Tallies.{chosen}
 use Rattle.octets.specs.Numbers.{be32_at}
-use Rattle.text.specs.Page.{Page}
+use Rattle.text.specs.Page.{shown}
+use Rattle.text.specs.declared.Page.{Page}
 use Rattle.text.proofs.Laws.{decimal-most}
 use Rattle.text.proofs.Putting.{ToCome, all_to_come, less_to_come, all_put, put_then}
 use Rattle.replay_transcript.proofs.Laws.{message_out}
@@ -221,7 +222,7 @@ less-telling {first} {ys} {l₀} {q} {b} {page} {l} {page'} {most} {l'} y t h p 
 
 -- all are told
 pub none_telling : {first : Page} {ys : List Line} {l₀ : List ℕ} {q : Input} {b : List ℕ} {page : Page} {l : List ℕ} {most : ℕ}
-    → StillTelling first ys l₀ q b page l → length b ≤ 0 → length first.spare ≤ length page.spare + most → TellingOf most ys first page l₀ l
+    → StillTelling first ys l₀ q b page l → length b ≤ 0 → length (shown first).spare ≤ length (shown page).spare + most → TellingOf most ys first page l₀ l
 unfolding all_text entered_all
 none_telling {q = q} {b} {l = l} t h f =
     let none = lines_end t.k q b h in

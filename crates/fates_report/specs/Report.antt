@@ -2,7 +2,8 @@
 use Rattle.std.specs.Prelude.{ℕ, zero, suc, ◌+◌, ◌*◌, ◌/◌, ◌%◌, ◌≤◌, ◌<◌, ◌≡◌, List, [], ◌∷◌, ◌++◌, length, get_or, take, ltb, eqb}
 use Rattle.ledger.specs.Choice.{both, ◌⇒◌∣◌}
 use Rattle.text.specs.Digits.{most_digits, decimal}
-use Rattle.text.specs.Page.{Page, Put}
+use Rattle.text.specs.Page.{shown, Put}
+use Rattle.text.specs.declared.Page.{Page}
 use Rattle.paper.specs.Base.{stream_total}
 use Rattle.paper.specs.Saps.{most_open}
 use Rattle.paper.specs.RecordsIn.{message_size}
@@ -151,7 +152,7 @@ told_size = end_size + records_size
 
 pub record RegisterRoom (register : List ℕ) (size : ℕ) (page : Page) : Type 0 where
   pub long : length register ≡ register_size
-  pub room : size ≤ length page.spare
+  pub room : size ≤ length (shown page).spare
 
 -- and a stream that has a page of the register
 pub record StreamRoom (i : ℕ) (register : List ℕ) (size : ℕ) (page : Page) : Type 0 where
@@ -181,7 +182,7 @@ pub record WrittenRoom (written register : List ℕ) (size : ℕ) (page : Page) 
 -- k cells of any list, and room for their numbers
 pub record NumbersRoom (c k : ℕ) (cells : List ℕ) (page : Page) : Type 0 where
   pub within : c + k ≤ length cells
-  pub room : spaced_size * k ≤ length page.spare
+  pub room : spaced_size * k ≤ length (shown page).spare
 
 -- ---- what is told: a text is put, and the register changes
 

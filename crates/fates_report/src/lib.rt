@@ -2,7 +2,7 @@
 #![tactic(auto)]
 
 ghost use Rattle.std.specs.Prelude.{◌≡◌, ◌*◌, ◌≤◌, length};
-ghost use Rattle.text.specs.Page.{Put};
+ghost use Rattle.text.specs.Page.{shown, Put};
 ghost use Rattle.paper.specs.Base.{stream_total};
 ghost use Rattle.paper.specs.Saps.{most_open};
 ghost use Rattle.fates_book.specs.Lines.{opening_lines};
@@ -20,7 +20,7 @@ use text::Page;
 
 // 'dlpi fates'
 pub fn put_heading(page: &mut Page)
-    requires { length heading ≤ length page.old.spare }
+    requires { length heading ≤ length (shown page.old).spare }
     ensures { Put (length heading) heading page.old page.new }
 {
     page.put_word(b"dlpi fates\n");
@@ -28,7 +28,7 @@ pub fn put_heading(page: &mut Page)
 
 // A blank and a number.
 fn put_spaced(page: &mut Page, n: u64)
-    requires { spaced_size ≤ length page.old.spare }
+    requires { spaced_size ≤ length (shown page.old).spare }
     ensures { Put spaced_size (spaced_number n) page.old page.new }
 {
     page.put_word(b" ");

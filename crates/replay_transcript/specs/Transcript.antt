@@ -5,7 +5,8 @@ use Rattle.octets.specs.Runs.{part}
 use Rattle.paper.specs.RecordsOut.{size_out, start_size}
 use Rattle.paper.specs.Room.{frame_room_size}
 use Rattle.text.specs.Digits.{most_digits, decimal, hex}
-use Rattle.text.specs.Page.{Page}
+use Rattle.text.specs.Page.{shown}
+use Rattle.text.specs.declared.Page.{Page}
 use Rattle.paper.specs.RecordsIn.{head_size, message_size, is_message}
 
 -- What a line shows behind the stream: of a message its bytes up to L, of other kinds the body's other fields.
@@ -111,11 +112,11 @@ abbrev pub call_text_size : ℕ
 call_text_size = per_byte * (frame_room_size + message_size)
 
 -- What is shown is short enough, and so much room for its text is on the page.
-pub record Fits (most : ℕ) (shown : List ℕ) (size : ℕ) (page : Page) : Type 0 where
-  pub short : length shown ≤ most
-  pub room : size ≤ length page.spare
+pub record Fits (most : ℕ) (what : List ℕ) (size : ℕ) (page : Page) : Type 0 where
+  pub short : length what ≤ most
+  pub room : size ≤ length (shown page).spare
 
 -- and so is the end of its line
-pub record FitsWith (most : ℕ) (end shown : List ℕ) (size : ℕ) (page : Page) : Type 0 where
+pub record FitsWith (most : ℕ) (end what : List ℕ) (size : ℕ) (page : Page) : Type 0 where
   pub ends : length end ≤ most
-  pub fits : Fits most shown size page
+  pub fits : Fits most what size page

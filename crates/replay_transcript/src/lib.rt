@@ -3,7 +3,7 @@
 
 ghost use Rattle.std.specs.Prelude.{◌≡◌, ◌++◌, ◌≤◌, length, get_or, take, drop};
 ghost use Rattle.paper.specs.RecordsOut.{size_out};
-ghost use Rattle.text.specs.Page.{Put};
+ghost use Rattle.text.specs.Page.{shown, Put};
 ghost use Rattle.paper.specs.Room.{frame_room_size};
 ghost use Rattle.replay_transcript.specs.Transcript.{shown_of, pair, spaced, record_line, all_lines, ok_line, call_text, title, totals};
 ghost use Rattle.replay_transcript.specs.Transcript.{shown_size, word_size, pair_size, line_size, record_line_size, call_text_size, Fits, FitsWith};
@@ -28,7 +28,7 @@ fn shown<'a>(r: &'a [u8]) -> &'a [u8]
 
 // The fields in hex behind a space; nothing where there are none.
 fn put_shown(page: &mut Page, s: &[u8])
-    requires { shown_size s.now ≤ length page.old.spare }
+    requires { shown_size s.now ≤ length (shown page.old).spare }
     ensures { Put (shown_size s.now) (spaced s.now) page.old page.new }
 {
     if !s.is_empty() {
@@ -49,7 +49,7 @@ fn put_pair(page: &mut Page, n: u64, word: &[u8], m: u64)
 
 // One line for each record out: the call's number, the kind, the stream, the fields in hex.
 fn put_record(page: &mut Page, n: u64, r: &[u8])
-    requires { record_line_size r.now ≤ length page.old.spare }
+    requires { record_line_size r.now ≤ length (shown page.old).spare }
     ensures { Put (record_line_size r.now) (record_line n r.now) page.old page.new }
 {
     let kind = octets::byte_at(r, 0);
@@ -90,7 +90,7 @@ fn put_pair_line(page: &mut Page, n: u64, word: &[u8], m: u64, end: &[u8])
 
 // 'n ok'
 fn put_ok(page: &mut Page, n: u64)
-    requires { line_size ≤ length page.old.spare }
+    requires { line_size ≤ length (shown page.old).spare }
     ensures { Put line_size (ok_line n) page.old page.new }
 {
     page.put_decimal(n);
@@ -125,7 +125,7 @@ pub fn put_call(page: &mut Page, n: u64, answer: u32, room: &[u8])
 
 // 'dlpi replay'
 pub fn put_title(page: &mut Page)
-    requires { length title ≤ length page.old.spare }
+    requires { length title ≤ length (shown page.old).spare }
     ensures { Put (length title) title page.old page.new }
 {
     page.put_word(b"dlpi replay\n");
@@ -133,7 +133,7 @@ pub fn put_title(page: &mut Page)
 
 // 'n records, m refused'
 pub fn put_totals(page: &mut Page, n: u64, m: u64)
-    requires { line_size ≤ length page.old.spare }
+    requires { line_size ≤ length (shown page.old).spare }
     ensures { Put line_size (totals n m) page.old page.new }
 {
     put_pair_line(page, n, b" records, ", m, b" refused\n");

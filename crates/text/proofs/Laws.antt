@@ -1,5 +1,5 @@
 -- Laws of digits: a number's are found from the last to the first, a byte's two at once.
-use Prim.Native.Nat.{ℕ, zero, suc, ◌+◌, ◌-◌, ◌/◌, ◌%◌, ◌^◌, ◌≤◌, ◌<◌}
+use Prim.Native.Nat.{ℕ, zero, suc, ◌+◌, ◌-◌, ◌*◌, ◌/◌, ◌%◌, ◌^◌, ◌≤◌, ◌<◌}
 use native.Mathlib.Omega.{arith}
 use native.Mathlib.Numerals.{add-one}
 use mathlib.Core.Path.{◌≡◌, refl, sym, ap, ◌∙◌}
@@ -58,6 +58,11 @@ unfolding decimal
 decimal-most n = digits-most most_digits n
 
 -- ---- hex
+
+-- two digits for each byte
+pub hex-length : (l : List ℕ) → length (hex l) ≡ 2 * length l
+hex-length [] = refl
+hex-length (b ∷ l) = omega (arith, hex-length l)
 
 hex_append : (l : List ℕ) (b : ℕ) → hex (l ++ (b ∷ [])) ≡ hex l ++ (digit (b / 16) ∷ digit (b % 16) ∷ [])
 hex_append [] b = refl

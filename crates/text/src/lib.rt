@@ -1,11 +1,12 @@
 // Text that grows in lent bytes: words, numbers in decimal, bytes in hex.
 #![tactic(auto)]
 
+mod over;
+
 ghost use Rattle.std.specs.Prelude.{◌≡◌, ◌+◌, ◌*◌, ◌<◌, ◌≤◌, [], ◌++◌, length};
 ghost use Rattle.text.specs.Digits.{most_digits, digit, decimal, DigitsFrom, hex};
-ghost use Rattle.text.specs.Page.{put, Put};
 
-use std::marker::Model;
+pub use over::{put_decimal, put_hex, put_word};
 
 // 64 bits have no more.
 const MOST_DIGITS: usize = 20;
@@ -15,30 +16,25 @@ const MOST_DIGITS: usize = 20;
 pub struct Page<'a> {
     bytes: &'a mut [u8],
     filled: usize,
-}
-
-impl<'a> Model for Page<'a> {
-    ghost use Rattle.std.specs.Prelude.{◌≤◌, length, take, drop};
-    ghost use Rattle.text.specs.Page.{Page as Text};
-
-    ghost Value = { Text };
-
-    ghost view = { λ p. record { text = take p.filled p.bytes.now; spare = drop p.filled p.bytes.now } };
-
-    ghost invariant = { λ p. p.filled ≤ length p.bytes.now };
+    ghost within: { filled ≤ length bytes.now },
 }
 
 impl<'a> Page<'a> {
+    ghost use Rattle.text.specs.Page.{shown, Put};
+
     // An empty page.
+    #[tactic(auto, unfolding(crate::specs::Page::shown))]
     pub fn new(bytes: &'a mut [u8]) -> Page<'a>
-        ensures { result ≡ record { text = []; spare = bytes.old } }
+        ensures shows { shown result ≡ record { text = []; spare = bytes.old } }
+        ensures same_reference { result.bytes.ghost_name ≡ bytes.entry.ghost_name }
     {
         Page { bytes, filled: 0 }
     }
 
     // Bytes as they are.
+    #[tactic(auto, unfolding(crate::specs::Page::shown))]
     pub fn put_word(&mut self, word: &[u8])
-        requires { length word.now ≤ length self.old.spare }
+        requires { length word.now ≤ length (shown self.old).spare }
         ensures { Put (length word.now) word.now self.old self.new }
     {
         octets::put_bytes(self.bytes, self.filled, word);
@@ -47,7 +43,7 @@ impl<'a> Page<'a> {
 
     // A number in decimal. (Its bytes are promised, and no `Display` promises its own; so with hex.)
     pub fn put_decimal(&mut self, n: u64)
-        requires { most_digits ≤ length self.old.spare }
+        requires { most_digits ≤ length (shown self.old).spare }
         ensures { Put most_digits (decimal n) self.old self.new }
     {
         let mut digits = [0u8; MOST_DIGITS];
@@ -57,7 +53,7 @@ impl<'a> Page<'a> {
 
     // Bytes in hex.
     pub fn put_hex(&mut self, bytes: &[u8])
-        requires { 2 * length bytes.now ≤ length self.old.spare }
+        requires { 2 * length bytes.now ≤ length (shown self.old).spare }
         ensures { Put (2 * length bytes.now) (hex bytes.now) self.old self.new }
     {
         for b in bytes {
@@ -66,22 +62,27 @@ impl<'a> Page<'a> {
     }
 
     // The text so far.
+    #[tactic(auto, unfolding(crate::specs::Page::shown))]
     pub fn text(&self) -> &[u8]
-        ensures { result.now ≡ self.now.text }
+        ensures { result.now ≡ (shown self.now).text }
     {
         &self.bytes[..self.filled]
     }
 
     // The lent bytes, with the text at their start.
+    #[tactic(auto, unfolding(crate::specs::Page::shown))]
     pub fn into_bytes(self) -> &'a mut [u8]
-        ensures { result.now ≡ self.entry.text ++ self.entry.spare }
+        ensures whole { result.now ≡ (shown self.entry).text ++ (shown self.entry).spare }
+        ensures same_reference { result.ghost_name ≡ self.entry.bytes.ghost_name }
     {
         self.bytes
     }
 
     // The text is gone, and all bytes may be filled anew.
+    #[tactic(auto, unfolding(crate::specs::Page::shown))]
     pub fn clear(&mut self)
-        ensures { self.new ≡ record { text = []; spare = self.old.text ++ self.old.spare } }
+        ensures shows { shown self.new ≡ record { text = []; spare = (shown self.old).text ++ (shown self.old).spare } }
+        ensures same_reference { self.new.bytes.ghost_name ≡ self.old.bytes.ghost_name }
     {
         self.filled = 0;
     }

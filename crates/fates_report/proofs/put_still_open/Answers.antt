@@ -4,7 +4,8 @@ use native.Mathlib.Omega.{arith}
 use mathlib.Core.Path.{◌≡◌}
 use mathlib.Core.List.{List}
 use lib.ListN.{get_or}
-use Rattle.text.specs.Page.{Page, Put}
+use Rattle.text.specs.Page.{Put}
+use Rattle.text.specs.declared.Page.{Page}
 use Rattle.text.proofs.Putting.{ToCome, all_to_come, less_to_come, all_put}
 use Rattle.paper.specs.Saps.{most_open}
 use Rattle.fates_report.specs.Report.{word_still_open, indication_line, open_lines}

@@ -3,7 +3,8 @@ use Prim.Native.Nat.{ℕ, ◌+◌, ◌*◌, ◌≤◌, ◌<◌}
 use mathlib.Core.Path.{◌≡◌}
 use mathlib.Core.List.{List}
 use lib.ListN.{length}
-use Rattle.text.specs.Page.{Page}
+use Rattle.text.specs.Page.{shown}
+use Rattle.text.specs.declared.Page.{Page}
 use Rattle.paper.specs.declared.Input.{Input}
 use Rattle.fates_book.specs.Lines.{lines_in}
 use Rattle.fates_report.specs.Report.{per_byte, records_size}
@@ -11,8 +12,8 @@ use Rattle.fates_report.proofs.Laws.{StillTelling}
 use Rattle.fates_report.proofs.tell_records.Given as goal
 
 pub record ToTell (register₀ : List ℕ) (first : Page) (q : Input) (written register : List ℕ) (page : Page) (rest : List ℕ) : Type 0 where
-  pub uncut : 0 < length rest → length first.spare + per_byte * length rest ≤ length page.spare + per_byte * length written
-  pub few : length first.spare ≤ length page.spare + records_size
+  pub uncut : 0 < length rest → length (shown first).spare + per_byte * length rest ≤ length (shown page).spare + per_byte * length written
+  pub few : length (shown first).spare ≤ length (shown page).spare + records_size
   pub whole : length register ≡ length register₀
   pub left : StillTelling first (lines_in (length written) q written) register₀ q rest page register
 

@@ -3,7 +3,8 @@
 use Prim.Native.Nat.{ℕ, ◌+◌, ◌*◌, ◌≤◌, ◌<◌}
 use mathlib.Core.List.{List}
 use lib.ListN.{length}
-use Rattle.text.specs.Page.{Page}
+use Rattle.text.specs.Page.{shown}
+use Rattle.text.specs.declared.Page.{Page}
 use Rattle.text.proofs.Putting.{ToCome}
 use Rattle.replay_transcript.specs.Transcript.{record_lines, all_lines, per_byte, call_text_size}
 use Rattle.replay_transcript.proofs.put_lines.Given as goal
@@ -12,8 +13,8 @@ use Rattle.replay_transcript.proofs.put_lines.Given as goal
 pub record LinesLeft (first : Page) (n : ℕ) (rs : List ℕ) (page : Page) (rest : List ℕ) : Type 0 where
   pub k : ℕ
   pub enough : length rest ≤ k
-  pub uncut : 0 < length rest → length first.spare + per_byte * length rest ≤ length page.spare + per_byte * length rs
-  pub few : length first.spare ≤ length page.spare + call_text_size
+  pub uncut : 0 < length rest → length (shown first).spare + per_byte * length rest ≤ length (shown page).spare + per_byte * length rs
+  pub few : length (shown first).spare ≤ length (shown page).spare + call_text_size
   pub text : ToCome first (all_lines n rs) page (record_lines k n rest)
 
 abbrev pub invariant-loop-rest : goal.invariant-loop-rest
