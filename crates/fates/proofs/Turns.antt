@@ -3,7 +3,7 @@ use Prim.Native.Nat.{ℕ}
 use mathlib.Core.Path.{◌∙◌}
 use mathlib.Core.Bool.{Bool}
 use mathlib.Core.List.{List}
-use Rattle.text.specs.Page.{Page}
+use Rattle.text.specs.declared.Page.{Page}
 use Rattle.turns.specs.Turns.{unread}
 use Rattle.turns.specs.Programs as programs
 use Rattle.turns.specs.declared.Turn.{Turn}
@@ -28,6 +28,7 @@ called table s input page t table' s' page' r w = record {
   image = w.image;
   entered = λ i. (w.kept i).register;
   stands = w.stands;
+  same_reference = w.same_reference;
 }
 
 pub turned : (table : List ℕ) (s : Fates) (input : List ℕ) (page : Page) (t : Turn) (table' : List ℕ) (s' : Fates) (page' : Page) (r : Turn)
@@ -42,6 +43,7 @@ turned table s input page t table' s' page' r w =
       image = w.image;
       entered = (λ i. (w.kept i).register) ∙ part_after_turn (λ (x : Fates). x.register) t s (fates_tell.kept table (unread input t) s);
       stands = w.stands;
+      same_reference = w.same_reference;
     }
 
 pub kept : (table : List ℕ) (s : Fates) (page : Page) (t : Turn) → programs.Kept fates_tell table s page t → Kept table s.register page t

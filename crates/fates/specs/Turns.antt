@@ -1,7 +1,8 @@
 -- What a turn of fates tells: the lines of its call and their text, and what it leaves.
 use Rattle.std.specs.Prelude.{ℕ, ◌≡◌, false, List}
 use Rattle.std.proofs.Common.{lit≤}
-use Rattle.text.specs.Page.{Page, put, Put}
+use Rattle.text.specs.Page.{shown, put, Put}
+use Rattle.text.specs.declared.Page.{Page}
 use Rattle.call_outcomes.specs.Leaving.{call_made}
 use Rattle.fates_book.specs.declared.Line.{Line}
 use Rattle.fates_register.specs.Register.{entered_all}
@@ -49,7 +50,8 @@ pub record Called (table register input : List ℕ) (page : Page) (t : Turn) (ta
   pub told : Told table' register'
   pub image : table' ≡ (call_on table input t).image
   pub entered : register' ≡ entered_all (lines_on table input t) register
-  pub stands : page' ≡ put page (text_on table register input t)
+  pub stands : shown page' ≡ put (shown page) (text_on table register input t)
+  pub same_reference : page'.bytes.ghost_name ≡ page.bytes.ghost_name
 
 pub record Turned (table register input : List ℕ) (page : Page) (t : Turn) (table' register' : List ℕ) (page' : Page) (r : Turn) : Type 0 where
   pub is : r ≡ turn_after input false t
@@ -58,7 +60,8 @@ pub record Turned (table register input : List ℕ) (page : Page) (t : Turn) (ta
   pub told : Told table' register'
   pub image : table' ≡ after_turn t table (call_on table input t).image
   pub entered : register' ≡ after_turn t register (entered_all (lines_on table input t) register)
-  pub stands : page' ≡ after_turn t page (put page (text_on table register input t))
+  pub stands : shown page' ≡ after_turn t (shown page) (put (shown page) (text_on table register input t))
+  pub same_reference : page'.bytes.ghost_name ≡ page.bytes.ghost_name
 
 pub record Kept (table register : List ℕ) (page : Page) (t : Turn) : Type 0 where
   pub fine : Fine t

@@ -2,7 +2,7 @@
 use Prim.Native.Nat.{ℕ}
 use mathlib.Core.Bool.{Bool}
 use mathlib.Core.List.{List}
-use Rattle.text.specs.Page.{Page}
+use Rattle.text.specs.declared.Page.{Page}
 use Rattle.turns.specs.Programs as programs
 use Rattle.turns.specs.declared.Turn.{Turn}
 use Rattle.replay.specs.declared.Replay.{Replay}
@@ -15,12 +15,12 @@ replayed table bytes s page n table' s' page' refused w = record { image = w.ima
 pub called : (table : List ℕ) (s : Replay) (input : List ℕ) (page : Page) (t : Turn) (table' : List ℕ) (s' : Replay) (page' : Page) (r : Turn)
     → programs.Called replay_tells table s input page t table' s' page' r → Called table input page t table' page' r
 called table s input page t table' s' page' r w =
-    record { is = w.is; fine = w.fine; prints = w.prints; image = w.image; sound = w.holds; stands = w.stands }
+    record { is = w.is; fine = w.fine; prints = w.prints; image = w.image; sound = w.holds; stands = w.stands; same_reference = w.same_reference }
 
 pub turned : (table : List ℕ) (s : Replay) (input : List ℕ) (page : Page) (t : Turn) (table' : List ℕ) (s' : Replay) (page' : Page) (r : Turn)
     → programs.Turned replay_tells table s input page t table' s' page' r → Turned table input page t table' page' r
 turned table s input page t table' s' page' r w =
-    record { is = w.is; fine = w.fine; prints = w.prints; image = w.image; sound = w.holds; stands = w.stands }
+    record { is = w.is; fine = w.fine; prints = w.prints; image = w.image; sound = w.holds; stands = w.stands; same_reference = w.same_reference }
 
 pub kept : (table : List ℕ) (s : Replay) (page : Page) (t : Turn) → programs.Kept replay_tells table s page t → Kept table page t
 kept table s page t w = record { fine = w.fine; prints = w.prints; sound = w.holds }

@@ -1,7 +1,8 @@
 -- What the replay program prints of a call, and what that makes of a turn.
 use Rattle.std.specs.Prelude.{ℕ, ◌+◌, ◌≡◌, Bool, true, List}
 use Rattle.std.proofs.Common.{lit≤}
-use Rattle.text.specs.Page.{Page, put, Put}
+use Rattle.text.specs.Page.{shown, put, Put}
+use Rattle.text.specs.declared.Page.{Page}
 use Rattle.table_image.specs.Layout.{sound_image}
 use Rattle.call_outcomes.specs.Leaving.{Left, call_made, is_refused}
 use Rattle.replay_transcript.specs.Transcript.{call_text, call_text_size, title, totals}
@@ -45,7 +46,8 @@ pub record Called (table input : List ℕ) (page : Page) (t : Turn) (table' : Li
   pub prints : Whole page'
   pub image : table' ≡ (call_on table input t).image
   pub sound : sound_image table' ≡ true
-  pub stands : page' ≡ put page (text_on table input t)
+  pub stands : shown page' ≡ put (shown page) (text_on table input t)
+  pub same_reference : page'.bytes.ghost_name ≡ page.bytes.ghost_name
 
 pub record Turned (table input : List ℕ) (page : Page) (t : Turn) (table' : List ℕ) (page' : Page) (r : Turn) : Type 0 where
   pub is : r ≡ turn_after input (is_refused (call_on table input t)) t
@@ -53,7 +55,8 @@ pub record Turned (table input : List ℕ) (page : Page) (t : Turn) (table' : Li
   pub prints : Whole page'
   pub image : table' ≡ after_turn t table (call_on table input t).image
   pub sound : sound_image table' ≡ true
-  pub stands : page' ≡ after_turn t page (put page (text_on table input t))
+  pub stands : shown page' ≡ after_turn t (shown page) (put (shown page) (text_on table input t))
+  pub same_reference : page'.bytes.ghost_name ≡ page.bytes.ghost_name
 
 pub record Kept (table : List ℕ) (page : Page) (t : Turn) : Type 0 where
   pub fine : Fine t

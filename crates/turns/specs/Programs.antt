@@ -1,10 +1,11 @@
 -- A program by what it keeps beside the table, an S: what it tells of each call, what holds before and after each part of a turn, and
 -- what each part leaves.
 use Rattle.std.specs.Prelude.{ℕ, ◌+◌, ◌≤◌, ◌<◌, ◌≡◌, Bool, List, length}
-use Rattle.text.specs.Page.{Page, put, Put}
+use Rattle.text.specs.Page.{shown, put, Put}
+use Rattle.text.specs.declared.Page.{Page}
 use Rattle.paper.specs.Room.{frame_room_size}
 use Rattle.call_outcomes.specs.Leaving.{call_made}
-use Rattle.turns.specs.Turns.{buffer_size, most_waiting, most_calls, unread, call_on, after_call, turn_after, after_turn, Fine, Whole, Drained}
+use Rattle.turns.specs.Turns.{buffer_size, most_waiting, most_calls, unread, call_on, after_call, turn_after, after_turn, Fine, Whole, Roomy}
 use Rattle.turns.specs.declared.Turn.{Turn}
 
 -- Each is said of the table and the bytes that a call is lent, and of what is kept before it.
@@ -37,7 +38,7 @@ module _ {S : Type 0} (p : Teller S) where
   pub record CallRoom (table : List ℕ) (s : S) (room : List ℕ) (page : Page) : Type 0 where
     pub holds : p.holds table s
     pub roomy : length room ≡ frame_room_size
-    pub prints : p.most ≤ length page.spare
+    pub prints : p.most ≤ length (shown page).spare
 
   -- the table is as the call leaves it, its text is put, and whether it counts as refused is told
   pub record Tells (table bytes : List ℕ) (s : S) (page : Page) (n : ℕ) (table' : List ℕ) (s' : S) (page' : Page) (refused : Bool) : Type 0 where
@@ -61,7 +62,7 @@ module _ {S : Type 0} (p : Teller S) where
     pub holds : p.holds table s
     pub roomy : length room ≡ frame_room_size
     pub reads : length input ≡ buffer_size
-    pub prints : Drained page
+    pub prints : Roomy page
     pub fine : Fine t
 
   -- and a number for it
@@ -78,7 +79,8 @@ module _ {S : Type 0} (p : Teller S) where
     pub holds : p.holds table' s'
     pub image : table' ≡ (call_on table input t).image
     pub kept : s' ≡ p.kept table (unread input t) s
-    pub stands : page' ≡ put page (text_on table s input t)
+    pub stands : shown page' ≡ put (shown page) (text_on table s input t)
+    pub same_reference : page'.bytes.ghost_name ≡ page.bytes.ghost_name
 
   pub record Turned (table : List ℕ) (s : S) (input : List ℕ) (page : Page) (t : Turn) (table' : List ℕ) (s' : S) (page' : Page) (r : Turn) : Type 0 where
     pub is : r ≡ turn_after input (refused_on table input t) t
@@ -87,7 +89,8 @@ module _ {S : Type 0} (p : Teller S) where
     pub holds : p.holds table' s'
     pub image : table' ≡ after_turn t table (call_on table input t).image
     pub kept : s' ≡ after_turn t s (p.kept table (unread input t) s)
-    pub stands : page' ≡ after_turn t page (put page (text_on table s input t))
+    pub stands : shown page' ≡ after_turn t (shown page) (put (shown page) (text_on table s input t))
+    pub same_reference : page'.bytes.ghost_name ≡ page.bytes.ghost_name
 
   pub record Kept (table : List ℕ) (s : S) (page : Page) (t : Turn) : Type 0 where
     pub fine : Fine t

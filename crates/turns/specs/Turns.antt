@@ -1,10 +1,11 @@
 -- The turns of a program that reads records on its input and prints a text for each call: what a call makes of them, and
 -- what holds between two.
-use Rattle.std.specs.Prelude.{ℕ, ◌+◌, ◌-◌, ◌≤◌, ◌<◌, ◌≡◌, Bool, true, false, not, List, eqb, ltb, length, take}
+use Rattle.std.specs.Prelude.{ℕ, ◌+◌, ◌-◌, ◌≤◌, ◌<◌, ◌≡◌, Bool, true, false, not, List, [], ◌++◌, eqb, ltb, length, take}
 use Rattle.ledger.specs.Choice.{both, either, ◌⇒◌∣◌}
 use Rattle.ledger.specs.Tally.{one_if}
 use Rattle.octets.specs.Runs.{part}
-use Rattle.text.specs.Page.{Page}
+use Rattle.text.specs.Page.{Shown, shown}
+use Rattle.text.specs.declared.Page.{Page}
 use Rattle.paper.specs.RecordsIn.{pair_size, record_size}
 use Rattle.call_outcomes.specs.Leaving.{Left, call_made}
 use Rattle.turns.specs.declared.Turn.{Turn}
@@ -92,7 +93,7 @@ pub record Fine (t : Turn) : Type 0 where
 
 -- a page over a buffer
 abbrev pub Whole : Page → Type 0
-Whole p = length p.text + length p.spare ≡ buffer_size
+Whole p = length (shown p).text + length (shown p).spare ≡ buffer_size
 
 -- a turn that is this one
 pub record FineAs (t r : Turn) : Type 0 where
@@ -124,7 +125,18 @@ pub record Fed (input : List ℕ) (t : Turn) (input' : List ℕ) (t' : Turn) : T
   pub calls : t'.calls ≡ t.calls
   pub refused : t'.refused ≡ t.refused
 
--- Writing out makes room for what a call prints.
-pub record Drained (p : Page) : Type 0 where
+-- a page with room for what a call prints
+pub record Roomy (p : Page) : Type 0 where
   pub whole : Whole p
-  pub fits : length p.text ≤ most_waiting
+  pub fits : length (shown p).text ≤ most_waiting
+
+-- What is printed goes where little room is left, and stays where there is more. Its bytes stay in either case.
+unfoldable pub written_out : Shown → Shown
+written_out p = ltb most_waiting (length p.text) ⇒ record { text = []; spare = p.text ++ p.spare } ∣ p
+
+-- Writing out makes room for what a call prints, over the same lent bytes, and changes none of them.
+pub record Drained (before after : Page) : Type 0 where
+  pub roomy : Roomy after
+  pub is : shown after ≡ written_out (shown before)
+  pub same_bytes : (shown after).text ++ (shown after).spare ≡ (shown before).text ++ (shown before).spare
+  pub same_reference : after.bytes.ghost_name ≡ before.bytes.ghost_name

@@ -4,10 +4,10 @@
 
 ghost use Rattle.std.specs.Prelude.{◌≡◌, ◌<◌, ◌≤◌, List, ℕ, false, length};
 ghost use Rattle.octets.specs.Runs.{part, paste};
-ghost use Rattle.text.specs.Page.{Put};
+ghost use Rattle.text.specs.Page.{shown, Put};
 ghost use Rattle.paper.specs.Base.{fresh};
 ghost use Rattle.table_image.specs.Layout.{image_of};
-ghost use Rattle.turns.specs.Turns.{buffer_size, most_text, most_calls, first_turn, waits, is_over, after_call};
+ghost use Rattle.turns.specs.Turns.{buffer_size, most_text, most_calls, first_turn, waits, is_over, stopping, after_call};
 ghost use Rattle.turns.specs.Turns.{Fine, FineAs, Buffer, CallMade, Rest, Fed, Whole, Drained};
 ghost use Rattle.turns.specs.Programs.{Teller, CallRoom, Tells, Standing, AtTurn, AtCall, Called, Turned, Kept};
 
@@ -15,11 +15,11 @@ use std::io::{self, Read, Write};
 use text::Page;
 
 // A buffer of the program.
-const BUFFER_SIZE: usize = 163840;
+pub const BUFFER_SIZE: usize = 163840;
 // What may wait to be written while a call is made: the text of a call has room behind it.
 const MOST_WAITING: usize = 45000;
 // 64 bits count no more.
-const MOST_CALLS: u64 = u64::MAX;
+pub const MOST_CALLS: u64 = u64::MAX;
 
 // A program by what it keeps beside the table.
 pub trait Program {
@@ -27,7 +27,7 @@ pub trait Program {
 
     // The first line.
     fn put_title(page: &mut Page)
-        requires { length page.old.spare ≡ buffer_size }
+        requires { length (shown page.old).spare ≡ buffer_size }
         ensures { Put buffer_size tells.title page.old page.new };
 
     // One call, and its text behind what is printed already; whether it was refused.
@@ -44,7 +44,7 @@ pub trait Program {
 
     // The last line.
     fn put_closing(&self, page: &mut Page, calls: u64, refused: u64)
-        requires { most_text ≤ length page.old.spare }
+        requires { most_text ≤ length (shown page.old).spare }
         ensures { Put most_text (tells.closing self.now calls refused) page.old page.new };
 }
 
@@ -72,7 +72,7 @@ fn shift(buf: &mut [u8], from: usize, n: usize)
 
 impl Turn {
     // Nothing is read and nothing counted.
-    fn first() -> Turn
+    pub fn first() -> Turn
         ensures { FineAs first_turn result }
     {
         Turn {
@@ -86,7 +86,7 @@ impl Turn {
     }
 
     // More input, where a record may be cut: what is left goes to the front, and one read follows it.
-    fn feed<R: Read>(&mut self, reader: &mut R, input: &mut [u8]) -> io::Result<()>
+    pub fn feed<R: Read>(&mut self, reader: &mut R, input: &mut [u8]) -> io::Result<()>
         requires { Buffer input.old self.old }
         ensures { Fed input.old self.old input.new self.new }
     {
@@ -105,7 +105,7 @@ impl Turn {
     }
 
     // A record may be cut, and more bytes may come.
-    fn waits(self) -> bool
+    pub fn waits(self) -> bool
         requires { Fine self }
         ensures { result ≡ waits self }
     {
@@ -113,7 +113,7 @@ impl Turn {
     }
 
     // No bytes are left, or no numbers to count calls with.
-    fn is_over(self) -> bool
+    pub fn is_over(self) -> bool
         requires { Fine self }
         ensures is { result ≡ is_over self }
         ensures numbered { result ≡ false → self.calls < most_calls }
@@ -121,8 +121,16 @@ impl Turn {
         self.end - self.start == 0 || self.calls == MOST_CALLS
     }
 
+    // No more turns.
+    pub fn stop(&mut self)
+        requires { Fine self.old }
+        ensures { FineAs (stopping self.old) self.new }
+    {
+        self.going = false;
+    }
+
     // A call was made on what is not read yet, and was refused or not.
-    fn after_call(&mut self, input: &[u8], refused: bool)
+    pub fn after_call(&mut self, input: &[u8], refused: bool)
         requires { CallMade input.now self.old }
         ensures { FineAs (after_call input.now refused self.old) self.new }
     {
@@ -135,9 +143,9 @@ impl Turn {
 }
 
 // What is printed to be written out, where little room is left on the page.
-fn drain<W: Write>(page: &mut Page, writer: &mut W) -> io::Result<()>
+pub fn drain<W: Write>(page: &mut Page, writer: &mut W) -> io::Result<()>
     requires { Whole page.old }
-    ensures { Drained page.new }
+    ensures { Drained page.old page.new }
 {
     if page.text().len() <= MOST_WAITING {
         return Ok(());
@@ -181,7 +189,7 @@ fn turned<P: Program>(
         return;
     }
     if t.is_over() {
-        t.going = false;
+        t.stop();
         return;
     }
     called(program, table, room, input, page, t);

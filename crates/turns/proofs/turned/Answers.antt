@@ -1,4 +1,5 @@
 -- The two tests are those of the definition, in their order: a turn that waits, one that is over, and one with a call.
+use mathlib.Core.Path.{refl}
 use borrow.Author.Rules.{rules}
 use Rattle.ledger.specs.Choice.{◌⇒◌∣◌}
 use Rattle.turns.specs.Turns.{turn_after, after_turn}
@@ -15,19 +16,21 @@ returns-then-waits g c =
       image = rw (← c.waits.ensures, c.if-waits.true);
       kept = rw (← c.waits.ensures, c.if-waits.true);
       stands = rw (← c.waits.ensures, c.if-waits.true);
+      same_reference = refl;
     }
 
 pub returns-then-is_over : goal.returns-then-is_over
 unfolding turn_after after_turn ◌⇒◌∣◌
 returns-then-is_over g c =
     record {
-      is = rw (← c.waits.ensures, c.if-waits.false, ← c.is_over.ensures.is, c.if-is_over.true);
-      fine = search rules;
+      is = rw (← c.waits.ensures, c.if-waits.false, ← c.is_over.ensures.is, c.if-is_over.true) c.stop.ensures.is;
+      fine = c.stop.ensures.fine;
       prints = c.requires.prints.whole;
       holds = c.requires.holds;
       image = rw (← c.waits.ensures, c.if-waits.false, ← c.is_over.ensures.is, c.if-is_over.true);
       kept = rw (← c.waits.ensures, c.if-waits.false, ← c.is_over.ensures.is, c.if-is_over.true);
       stands = rw (← c.waits.ensures, c.if-waits.false, ← c.is_over.ensures.is, c.if-is_over.true);
+      same_reference = refl;
     }
 
 pub called-requires : goal.called-requires
@@ -45,4 +48,5 @@ returns g c =
       image = rw (← c.waits.ensures, c.if-waits.false, ← c.is_over.ensures.is, c.if-is_over.false) left.image;
       kept = rw (← c.waits.ensures, c.if-waits.false, ← c.is_over.ensures.is, c.if-is_over.false) left.kept;
       stands = rw (← c.waits.ensures, c.if-waits.false, ← c.is_over.ensures.is, c.if-is_over.false) left.stands;
+      same_reference = left.same_reference;
     }
