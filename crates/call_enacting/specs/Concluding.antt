@@ -1,5 +1,6 @@
 -- What is asked of what was decided, and what is written for it.
-use Rattle.std.specs.Prelude.{ℕ, ◌≤◌, List, [], ◌∷◌, Result}
+use Rattle.std.specs.Prelude.{ℕ, ◌≤◌, ◌<◌, List, [], ◌∷◌, Result}
+use Rattle.std.specs.Result.{IfErr}
 use Rattle.octets.specs.Blocks.{pad_to}
 use Rattle.octets.specs.Runs.{part}
 use Rattle.octets.specs.Writing.{Wrote}
@@ -12,12 +13,15 @@ use Rattle.table_image.specs.Layout.{table_of}
 use Rattle.call_outcomes.specs.Deciding.{Enactable}
 use Rattle.call_outcomes.specs.Rooms.{LentCall}
 use Rattle.call_outcomes.specs.declared.Deed.{Deed}
-use Rattle.call_outcomes.specs.declared.Refusal.{Refusal}
 
 -- what was decided can be enacted, in room enough
-pub record Concludes (d : Result Deed Refusal) (img room : List ℕ) : Type 0 where
+pub record Concludes {E : Type 0} (d : Result Deed E) (img room : List ℕ) : Type 0 where
   pub call : LentCall img room
   pub fits : Enactable (table_of img) d
+
+-- a refusal has a number, of those by k
+abbrev pub Numbered : {E : Type 0} → (E → ℕ) → Result Deed E → Type 0
+Numbered k d = IfErr d (λ refusal. 0 < k refusal)
 
 -- Bytes are written at the start of a room, no more than so many, whichever the stream's own slot is.
 pub record WroteBeside (most : ℕ) (bytes : Slot → List ℕ) (n : ℕ) (before after : List ℕ) : Type 0 where

@@ -1,23 +1,24 @@
 // What was decided, concluded: an effect's records are written to the lent room, then the lent table is changed.
 #![tactic(auto)]
 
-ghost use Rattle.std.specs.Prelude.{◌≡◌, ◌+◌, ◌<◌, ◌≤◌, length, Some};
+ghost use Rattle.std.specs.Prelude.{ℕ, ◌≡◌, ◌+◌, ◌<◌, ◌≤◌, length, Some};
 ghost use Rattle.paper.specs.Base.{stream_total, slot, mac_at};
 ghost use Rattle.paper.specs.RecordsOut.{up, bytes_of, unitdata_size, all_bytes};
 ghost use Rattle.paper.specs.Effects.{named_by, orders_in, behind_reply, ups_in, told};
 ghost use Rattle.table_image.specs.Layout.{table_of};
 ghost use Rattle.table_image.specs.LentTable.{table_in};
 ghost use Rattle.call_outcomes.specs.Leaving.{left, leaving};
-ghost use Rattle.call_outcomes.specs.Deciding.{outcome_of};
-ghost use Rattle.call_outcomes.specs.Answering.{call_number};
+ghost use Rattle.call_outcomes.specs.declared.Refusal.{Refusal};
+ghost use Rattle.call_outcomes.specs.Deciding.{outcome_of, outcome_by};
+ghost use Rattle.call_outcomes.specs.Answering.{number_by};
 ghost use Rattle.call_enacting.specs.Behind.{own_behind, behind_by};
 ghost use Rattle.paper.specs.RecordsIn.{message_size, data_size, block_in};
 ghost use Rattle.paper.specs.Room.{room_size, Fits, most_of_order, most_told, most_said};
 ghost use Rattle.octets.specs.Writing.{WroteMost};
 ghost use Rattle.paper.specs.Replies.{most_tail};
-ghost use Rattle.call_enacting.specs.Concluding.{Concludes, WroteBeside, datagram_bytes};
+ghost use Rattle.call_enacting.specs.Concluding.{Concludes, Numbered, WroteBeside, datagram_bytes};
 
-use call_outcomes::{Deed, Refusal, Served};
+use call_outcomes::{Deed, Served};
 use octets::BLOCK_SIZE;
 use paper::{
     ADDRESS_SIZE, BODY_SIZE, Effect, Form, HEAD_SIZE, LineOrder, MAC_SIZE, MESSAGE_SIZE, MOST_TAIL,
@@ -174,7 +175,7 @@ fn put_records(table: LentTable, room: &mut [u8], i: u8, c: u8, r: &[u8], e: Eff
 
 // An effect, of a message or an event, whose record r is; how many bytes it wrote.
 fn enact(img: &mut [u8], room: &mut [u8], r: &[u8], d: Deed) -> u16
-    requires { Concludes (Ok d) img.old room.old }
+    requires { Concludes {E = Refusal} (Ok d) img.old room.old }
     ensures { left result img.new room.new ≡ leaving img.old room.old (outcome_of (table_of img.old) r.now (Ok d)) }
 {
     let i = d.stream;
@@ -187,15 +188,15 @@ fn enact(img: &mut [u8], room: &mut [u8], r: &[u8], d: Deed) -> u16
     n as u16
 }
 
-// What was decided, of a message or an event, whose record r is. A refusal leaves all as it stood.
-pub fn conclude(
+// What was decided, of a message or an event, whose record r is. A refusal, however refusals are numbered, leaves all as it stood.
+pub fn conclude<E>(
     img: &mut [u8],
     room: &mut [u8],
     r: &[u8],
-    d: Result<Deed, Refusal>,
-) -> Result<Served, Refusal>
-    requires { Concludes d img.old room.old }
-    ensures { left (call_number result) img.new room.new ≡ leaving img.old room.old (outcome_of (table_of img.old) r.now d) }
+    d: Result<Deed, E>,
+) -> Result<Served, E>
+    requires { Concludes {E = E} d img.old room.old }
+    ensures { (k : E → ℕ) → Numbered k d → left (number_by k result) img.new room.new ≡ leaving img.old room.old (outcome_by k (table_of img.old) r.now d) }
 {
     match d {
         Err(refusal) => Err(refusal),

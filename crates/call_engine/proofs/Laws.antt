@@ -4,6 +4,7 @@ use mathlib.Core.Path.{◌≡◌, refl, sym, ap, subst, ◌∙◌}
 use mathlib.Core.Bool.{true, not, false≢true}
 use mathlib.Core.List.{List}
 use lib.ListN.{length}
+use Rattle.std.specs.Prelude.{Result, Ok, Err}
 use lib.Dec.{ltb}
 use Rattle.ledger.specs.Choice.{◌⇒◌∣◌}
 use Rattle.ledger.proofs.Tallies.{both_of, skip}
@@ -22,6 +23,11 @@ use Rattle.paper.proofs.Records.{least_size, read-long}
 use Rattle.paper.proofs.SoundTests.{few-granted}
 use Rattle.table_image.specs.Layout.{table_of, tidy, sound_image}
 use Rattle.call_outcomes.specs.Leaving.{leaving, call_of}
+use Rattle.call_outcomes.specs.Answering.{refusal_number}
+use Rattle.call_outcomes.specs.declared.Deed.{Deed}
+use Rattle.call_outcomes.specs.declared.Refusal.{Refusal}
+use Rattle.call_outcomes.proofs.Laws.{some_number}
+use Rattle.call_enacting.specs.Concluding.{Numbered}
 use Rattle.call_events.specs.Bringing.{is_of_line}
 use Rattle.call_engine.specs.Reading.{is_to_stream}
 use Rattle.paper.specs.Saps.{most_open}
@@ -34,6 +40,11 @@ parts img h = both_of (tidy img) (sound (table_of img)) h
 -- at most 8 are granted
 pub image_grants_few : (img : List ℕ) → sound_image img ≡ true → (i : ℕ) → (stream (table_of img) i).granted ≤ most_open
 image_grants_few img h = few-granted (table_of img) (parts img h).1
+
+-- each refusal has its number in the rule paper
+pub all_numbered : (d : Result Deed Refusal) → Numbered refusal_number d
+all_numbered (Ok deed) = tt
+all_numbered (Err refusal) = some_number refusal
 
 -- ---- what a record asks for, by what was read
 

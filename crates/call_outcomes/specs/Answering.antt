@@ -20,7 +20,11 @@ refusal_number NoNewPpa = no_new_ppa
 refusal_number NotARecord = not_a_record
 refusal_number NotSound = not_sound
 
+-- where refusals are numbered by k
+abbrev pub number_by : {E : Type 0} → (E → ℕ) → Result Served E → ℕ
+number_by k (Ok (Wrote bytes)) = bytes
+number_by k (Ok (Opened token)) = token * 16777216
+number_by k (Err refusal) = refusing (k refusal)
+
 abbrev pub call_number : Result Served Refusal → ℕ
-call_number (Ok (Wrote bytes)) = bytes
-call_number (Ok (Opened token)) = token * 16777216
-call_number (Err refusal) = refusing (refusal_number refusal)
+call_number = number_by refusal_number

@@ -15,11 +15,14 @@ use Rattle.paper.specs.Saps.{most_open}
 abbrev pub doing : ℕ → ℕ → Effect → Deed
 doing i c e = record { stream = i; carrier = c; effect = e }
 
--- what it comes to, where r is the record of the message, or of the event
-abbrev pub outcome_of : Table → List ℕ → Result Deed Refusal → Outcome
-outcome_of t r (Err refusal) = refused t (refusal_number refusal)
-outcome_of t r (Ok d) =
+-- what it comes to, where r is the record of the message, or of the event, and refusals are numbered by k
+abbrev pub outcome_by : {E : Type 0} → (E → ℕ) → Table → List ℕ → Result Deed E → Outcome
+outcome_by k t r (Err refusal) = refused t (k refusal)
+outcome_by k t r (Ok d) =
     served (enacted t d.stream d.carrier r d.effect) (told d.stream d.carrier (slot t d.stream) (mac_at t d.stream) r d.effect)
+
+abbrev pub outcome_of : Table → List ℕ → Result Deed Refusal → Outcome
+outcome_of = outcome_by refusal_number
 
 -- The stream is one of the table, and has a place for an open indication that it takes; the records fit the room.
 pub record Placed (t : Table) (i : ℕ) (e : Effect) : Type 0 where
@@ -28,7 +31,7 @@ pub record Placed (t : Table) (i : ℕ) (e : Effect) : Type 0 where
   pub fits : Fits e
 
 -- It can be enacted: an effect has its stream and its place.
-abbrev pub Enactable : Table → Result Deed Refusal → Type 0
+abbrev pub Enactable : {E : Type 0} → Table → Result Deed E → Type 0
 Enactable t d = IfOk d (λ (x : Deed). Placed t x.stream x.effect)
 
 -- It is decided as it should be.

@@ -2,7 +2,7 @@
 #![tactic(auto)]
 
 ghost use Rattle.std.specs.Prelude.{◌≡◌, ltb};
-ghost use Rattle.call_outcomes.specs.Leaving.{refusal_in};
+ghost use Rattle.call_outcomes.specs.Leaving.{refusal_in, refusing};
 ghost use Rattle.call_outcomes.specs.Answering.{refusal_number, call_number};
 ghost use Rattle.call_outcomes.specs.Deciding.{doing};
 
@@ -66,6 +66,13 @@ pub enum Served {
     Opened(u8),
 }
 
+// The number that C is told of a refused call.
+pub fn refusing(n: u8) -> u32
+    ensures { result ≡ refusing n }
+{
+    u32::from(n) * 65536
+}
+
 // The number that C is told of a call: the bytes written in bits 0 to 15, the refusal number in 16 to 23, the token of the
 // stream just opened in 24 to 31.
 pub fn call_number(answer: Result<Served, Refusal>) -> u32
@@ -74,7 +81,7 @@ pub fn call_number(answer: Result<Served, Refusal>) -> u32
     match answer {
         Ok(Served::Wrote(bytes)) => u32::from(bytes),
         Ok(Served::Opened(token)) => u32::from(token) * 16777216,
-        Err(refusal) => u32::from(refusal.number()) * 65536,
+        Err(refusal) => refusing(refusal.number()),
     }
 }
 

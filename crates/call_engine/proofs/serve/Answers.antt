@@ -11,7 +11,8 @@ use Rattle.paper.specs.Openings.{adds_ppa}
 use Rattle.paper.specs.Room.{room_for}
 use Rattle.paper.specs.declared.Input.{Input}
 use Rattle.paper.proofs.SoundTests.{shut}
-use Rattle.call_engine.proofs.Laws.{parts, to_stream, one_room, read_whole}
+use Rattle.call_engine.proofs.Laws.{parts, to_stream, one_room, read_whole, all_numbered}
+use Rattle.call_outcomes.specs.Answering.{refusal_number}
 use Rattle.octets.proofs.Runs.{part_length}
 use Rattle.paper.specs.Base.{mac_size}
 use Rattle.call_engine.proofs.serve.Goals as goal
@@ -92,4 +93,4 @@ returns-in-Frame c =
 
 pub returns-in_default : goal.returns-in_default
 returns-in_default c =
-    c.conclude.ensures ∙ ap (leaving c.args.img.now c.args.room.now) c.decide_coming-d.ensures.comes
+    c.conclude.ensures refusal_number (all_numbered _) ∙ ap (leaving c.args.img.now c.args.room.now) c.decide_coming-d.ensures.comes
