@@ -5,7 +5,7 @@ ghost use Rattle.std.specs.Prelude.{not, ◌<◌, ◌≡◌, ◌+◌, ◌-◌, �
 ghost use Rattle.ledger.specs.Tally.{one_if, sum_of};
 ghost use Rattle.paper.specs.Base.{stream_total, Slot, fresh, slot, stream, waiting, closed, just_opened, lowest_free, with_slot, with_stream, with_counter, with_ppa, remembering};
 ghost use Rattle.table_image.specs.Layout.{stream_from, mask_in, table_of, stream_bytes, image_of, slot_size};
-ghost use Rattle.table_image.specs.Lent.{Lent, Held, LentAt, LentClosed, LentOpen, PpaPlace, Masked};
+ghost use Rattle.table_image.specs.Lent.{Lent, Held, At, LentAt, LentClosed, LentOpen, PpaPlace, Masked};
 
 use paper::{MAC_SIZE, MOST_OPEN, MOST_PPAS, PpaNumber, STREAM_TOTAL, State, Stream};
 
@@ -65,6 +65,15 @@ fn stream_from(c: &[u8]) -> Stream
 }
 
 // ---- the table, to be read where it lies
+
+// The PPA that a stream is attached to, in bytes as long as an image.
+pub fn attached_at(img: &[u8], i: usize) -> PpaNumber
+    requires { At i img.now }
+    ensures { result ≡ (stream (table_of img.now) i).ppa }
+{
+    let at = i * SLOT_SIZE + SLOTS_OFFSET + ATTACHED_OFFSET;
+    PpaNumber(octets::number_inside::<u32>(img, at))
+}
 
 // The image of a table, lent to be read.
 #[derive(Clone, Copy)]
@@ -135,8 +144,7 @@ impl<'a> LentTable<'a> {
         requires { i < stream_total }
         ensures { result ≡ (stream (table_in self.entry) i).ppa }
     {
-        let at = i * SLOT_SIZE + SLOTS_OFFSET + ATTACHED_OFFSET;
-        PpaNumber(octets::number_inside::<u32>(self.image, at))
+        attached_at(self.image, i)
     }
 
     pub fn sap_at(self, i: usize) -> u16

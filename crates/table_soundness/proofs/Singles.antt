@@ -43,7 +43,7 @@ comes-once n l h =
     let k : one_if (eqb n n) + occ n l ≤ 1 = leb-true _ _ (both_of (ltb 0 n) _ h).1 in
     omega (arith, ap one_if (eq-eqb n n refl))
 
-single_on_lem : (l : List ℕ) → single_on l ≡ are_single l
+pub single_on_lem : (l : List ℕ) → single_on l ≡ are_single l
 single_on_lem [] = refl
 single_on_lem (n ∷ l) = ap (both (is_single_in (n ∷ l) n)) (single_on_lem l) ∙ go (is_single_in (n ∷ l) n) refl
   where
