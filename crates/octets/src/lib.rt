@@ -104,12 +104,14 @@ pub fn number_inside<N: Number>(s: &[u8], at: usize) -> N
     N::first(&s[at..at + N::SIZE])
 }
 
-// Bytes over others from a place on.
+// Bytes over others from a place on. (`copy_from_slice` would have the library for C need memmove of the caller's.)
 pub fn put_bytes(dst: &mut [u8], at: usize, src: &[u8])
     requires { at + length src.now ≤ length dst.old }
     ensures { dst.new ≡ paste dst.old at src.now }
 {
-    dst[at..at + src.len()].copy_from_slice(src);
+    for i in 0..src.len() {
+        dst[at + i] = src[i];
+    }
 }
 
 // A number's bytes over others from a place on.
