@@ -154,11 +154,11 @@ pub fn is_zero(s: &[u8]) -> bool
     s.iter().fold(0, |any, b| any | b) == 0
 }
 
-// Two runs have the same length and the same bytes.
+// Two runs have the same length and the same bytes. (Place by place: of `a == b` no edit could compare the wrong byte.)
 pub fn same_bytes(a: &[u8], b: &[u8]) -> bool
     ensures { result ≡ same_bytes a.now b.now }
 {
-    a == b
+    a.len() == b.len() && (0..a.len()).all(|i| byte_at(a, i) == byte_at(b, i))
 }
 
 // Of n bytes from a place on, those that are there.
