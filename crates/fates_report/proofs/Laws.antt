@@ -10,10 +10,10 @@ use borrow.Author.Tests.{eqb-true, eq-eqb, ne_eqb}
 use Rattle.ledger.specs.Choice.{◌⇒◌∣◌}
 use Rattle.ledger.proofs.Tallies.{chosen}
 use Rattle.octets.specs.Numbers.{be32_at}
-use Rattle.text.specs.Page.{shown}
+use Rattle.text.specs.Page.{Shown, shown}
 use Rattle.text.specs.declared.Page.{Page}
 use Rattle.text.proofs.Laws.{decimal-most}
-use Rattle.text.proofs.Putting.{ToCome, all_to_come, less_to_come, all_put, put_then}
+use Rattle.text.proofs.Putting.{added, put_added, added_then, Leads, all_leads, less_leads, all_added, ToCome, leads, leads_to_come}
 use Rattle.replay_transcript.proofs.Laws.{message_out}
 use Rattle.paper.specs.declared.Input.{Input}
 use Rattle.paper.specs.RecordsOut.{accept_size, disconnect_size, size_out}
@@ -29,7 +29,7 @@ use Rattle.paper.specs.Saps.{most_open}
 use Rattle.fates_register.specs.Register.{free_from, page_of, places_of, open_on, entered, entered_all}
 use Rattle.fates_register.proofs.Laws.{entered_append}
 use Rattle.fates_report.specs.Report.{word_call, word_of, word_still_open, spaced_number, numbers, indication_line, open_lines, end_text, line_text}
-use Rattle.fates_report.specs.Report.{all_text, end_texts, open_on_all, spaced_size, fate_size, indication_size, per_byte, Telling, TellingOf}
+use Rattle.fates_report.specs.Report.{all_text, end_texts, open_on_all, spaced_size, fate_size, indication_size, per_byte, Saying, SayingOf, Telling, TellingOf}
 
 -- ---- numbers
 
@@ -181,31 +181,31 @@ lines_next k q [] h = absurd (omega arith)
 lines_next k q (x ∷ b) h = refl
 
 -- k lines at most are still to be told, of the records that are left
-pub record StillTelling (first : Page) (ys : List Line) (l₀ : List ℕ) (q : Input) (b : List ℕ) (page : Page) (l : List ℕ) : Type 0 where
+pub record StillSaying (first : Shown) (ys : List Line) (l₀ : List ℕ) (q : Input) (b : List ℕ) (page : Shown) (l : List ℕ) : Type 0 where
   pub k : ℕ
   pub enough : length b ≤ k
-  pub text : ToCome first (all_text ys l₀) page (all_text (lines_in k q b) l)
+  pub text : Leads first (all_text ys l₀) page (all_text (lines_in k q b) l)
   pub register : entered_all ys l₀ ≡ entered_all (lines_in k q b) l
 
-pub all_telling : (page : Page) (q : Input) (b l : List ℕ) → StillTelling page (lines_in (length b) q b) l q b page l
-all_telling page q b l = record {
+pub all_saying : (page : Shown) (q : Input) (b l : List ℕ) → StillSaying page (lines_in (length b) q b) l q b page l
+all_saying page q b l = record {
   k = length b;
   enough = omega arith;
-  text = all_to_come page (all_text (lines_in (length b) q b) l);
+  text = all_leads page (all_text (lines_in (length b) q b) l);
   register = refl;
 }
 
 -- a line was told
-pub less-telling : {first : Page} {ys : List Line} {l₀ : List ℕ} {q : Input} {b : List ℕ} {page : Page} {l : List ℕ} {page' : Page} {most : ℕ}
+pub less-saying : {first : Shown} {ys : List Line} {l₀ : List ℕ} {q : Input} {b : List ℕ} {page : Shown} {l : List ℕ} {page' : Shown} {most : ℕ}
     {l' : List ℕ} (y : Line)
-    → StillTelling first ys l₀ q b page l → 0 < length b → y ≡ line_at q b
-    → Telling most (line_text y l) (entered y l) page page' l'
-    → StillTelling first ys l₀ q (drop (size_out (get_or b 0 0)) b) page' l'
+    → StillSaying first ys l₀ q b page l → 0 < length b → y ≡ line_at q b
+    → Saying most (line_text y l) (entered y l) page page' l'
+    → StillSaying first ys l₀ q (drop (size_out (get_or b 0 0)) b) page' l'
 unfolding all_text entered_all
-less-telling {first} {ys} {l₀} {q} {b} {page} {l} {page'} {most} {l'} y t h p w = go t.k t.enough t.text t.register
+less-saying {first} {ys} {l₀} {q} {b} {page} {l} {page'} {most} {l'} y t h p w = go t.k t.enough t.text t.register
   where
-    go : (k : ℕ) → length b ≤ k → ToCome first (all_text ys l₀) page (all_text (lines_in k q b) l)
-        → entered_all ys l₀ ≡ entered_all (lines_in k q b) l → StillTelling first ys l₀ q (drop (size_out (get_or b 0 0)) b) page' l'
+    go : (k : ℕ) → length b ≤ k → Leads first (all_text ys l₀) page (all_text (lines_in k q b) l)
+        → entered_all ys l₀ ≡ entered_all (lines_in k q b) l → StillSaying first ys l₀ q (drop (size_out (get_or b 0 0)) b) page' l'
     go zero a c r = absurd (omega (arith, h, a))
     go (suc k) a c r =
         let size : ℕ = size_out (get_or b 0 0) in
@@ -215,21 +215,58 @@ less-telling {first} {ys} {l₀} {q} {b} {page} {l} {page'} {most} {l'} y t h p 
           k = k;
           enough = omega (arith, a, size-within (get_or b 0 0), length-drop size b);
           text =
-              less_to_come (line_text y l) (all_text rest l') c
+              less_leads (line_text y l) (all_text rest l') c
               (ap (λ (x : List Line). all_text x l) all ∙ ap (λ (x : List ℕ). line_text y l ++ all_text rest x) (sym w.entered)) w.wrote;
           register = r ∙ ap (λ (x : List Line). entered_all x l) all ∙ ap (entered_all rest) (sym w.entered);
         }
 
 -- all are told
-pub none_telling : {first : Page} {ys : List Line} {l₀ : List ℕ} {q : Input} {b : List ℕ} {page : Page} {l : List ℕ} {most : ℕ}
-    → StillTelling first ys l₀ q b page l → length b ≤ 0 → length (shown first).spare ≤ length (shown page).spare + most → TellingOf most ys first page l₀ l
+pub none_saying : {first : Shown} {ys : List Line} {l₀ : List ℕ} {q : Input} {b : List ℕ} {page : Shown} {l : List ℕ} {most : ℕ}
+    → StillSaying first ys l₀ q b page l → length b ≤ 0 → length first.spare ≤ length page.spare + most → SayingOf most ys first page l₀ l
 unfolding all_text entered_all
-none_telling {q = q} {b} {l = l} t h f =
+none_saying {q = q} {b} {l = l} t h f =
     let none = lines_end t.k q b h in
     record {
-      wrote = all_put f t.text (ap (λ (x : List Line). all_text x l) none);
+      wrote = all_added f t.text (ap (λ (x : List Line). all_text x l) none);
       entered = sym (t.register ∙ ap (λ (x : List Line). entered_all x l) none);
     }
+
+-- ---- the same of a page
+
+pub saying : {most : ℕ} {text kept : List ℕ} {page page' : Page} {l : List ℕ} → Telling most text kept page page' l
+    → Saying most text kept (shown page) (shown page') l
+saying t = record { wrote = added t.wrote; entered = t.entered }
+
+pub record StillTelling (first : Page) (ys : List Line) (l₀ : List ℕ) (q : Input) (b : List ℕ) (page : Page) (l : List ℕ) : Type 0 where
+  pub k : ℕ
+  pub enough : length b ≤ k
+  pub text : ToCome first (all_text ys l₀) page (all_text (lines_in k q b) l)
+  pub register : entered_all ys l₀ ≡ entered_all (lines_in k q b) l
+
+still_saying : {first : Page} {ys : List Line} {l₀ : List ℕ} {q : Input} {b : List ℕ} {page : Page} {l : List ℕ}
+    → StillTelling first ys l₀ q b page l → StillSaying (shown first) ys l₀ q b (shown page) l
+still_saying t = record { k = t.k; enough = t.enough; text = leads t.text; register = t.register }
+
+still_telling : {first : Page} {ys : List Line} {l₀ : List ℕ} {q : Input} {b : List ℕ} {page : Page} {l : List ℕ}
+    → StillSaying (shown first) ys l₀ q b (shown page) l → page.bytes.ghost_name ≡ first.bytes.ghost_name → StillTelling first ys l₀ q b page l
+still_telling t same = record { k = t.k; enough = t.enough; text = leads_to_come t.text same; register = t.register }
+
+pub all_telling : (page : Page) (q : Input) (b l : List ℕ) → StillTelling page (lines_in (length b) q b) l q b page l
+all_telling page q b l = still_telling (all_saying (shown page) q b l) refl
+
+pub less-telling : {first : Page} {ys : List Line} {l₀ : List ℕ} {q : Input} {b : List ℕ} {page : Page} {l : List ℕ} {page' : Page} {most : ℕ}
+    {l' : List ℕ} (y : Line)
+    → StillTelling first ys l₀ q b page l → 0 < length b → y ≡ line_at q b
+    → Telling most (line_text y l) (entered y l) page page' l'
+    → StillTelling first ys l₀ q (drop (size_out (get_or b 0 0)) b) page' l'
+less-telling y t h p w =
+    still_telling (less-saying y (still_saying t) h p (saying w)) (w.wrote.same_reference ∙ t.text.same_reference)
+
+pub none_telling : {first : Page} {ys : List Line} {l₀ : List ℕ} {q : Input} {b : List ℕ} {page : Page} {l : List ℕ} {most : ℕ}
+    → StillTelling first ys l₀ q b page l → length b ≤ 0 → length (shown first).spare ≤ length (shown page).spare + most → TellingOf most ys first page l₀ l
+none_telling t h f =
+    let said = none_saying (still_saying t) h f in
+    record { wrote = put_added said.wrote t.text.same_reference; entered = said.entered }
 
 -- ---- a call
 
@@ -241,11 +278,18 @@ text_append (x ∷ xs) ys l =
     ∙ sym (append_assoc (line_text x l) (all_text xs (entered x l)) (all_text ys (entered_all xs (entered x l))))
 
 -- some lines were told, and others behind them
+pub lines-said : {first second third : Shown} {l₁ l₂ : List ℕ} {m n : ℕ} (l₀ : List ℕ) (xs ys : List Line)
+    → SayingOf m xs first second l₀ l₁ → SayingOf n ys second third l₁ l₂
+    → SayingOf (m + n) (xs ++ ys) first third l₀ l₂
+lines-said l₀ xs ys a b =
+    rw (text_append xs ys l₀, entered_append xs ys l₀, ← a.entered) (record { wrote = added_then a.wrote b.wrote; entered = b.entered })
+
 pub lines-told : {first second third : Page} {l₁ l₂ : List ℕ} {m n : ℕ} (l₀ : List ℕ) (xs ys : List Line)
     → TellingOf m xs first second l₀ l₁ → TellingOf n ys second third l₁ l₂
     → TellingOf (m + n) (xs ++ ys) first third l₀ l₂
 lines-told l₀ xs ys a b =
-    rw (text_append xs ys l₀, entered_append xs ys l₀, ← a.entered) (record { wrote = put_then a.wrote b.wrote; entered = b.entered })
+    let said = lines-said l₀ xs ys (saying a) (saying b) in
+    record { wrote = put_added said.wrote (b.wrote.same_reference ∙ a.wrote.same_reference); entered = said.entered }
 
 -- where a stream was opened, its line alone
 pub opened_text : (t : ℕ) (l : List ℕ) → (t ≡ 0 → ⊥) → all_text (opening_lines t) l ≡ line_text (Began (t - 1)) l

@@ -2,7 +2,7 @@
 use Rattle.std.specs.Prelude.{ℕ, zero, suc, ◌+◌, ◌*◌, ◌/◌, ◌%◌, ◌≤◌, ◌<◌, ◌≡◌, List, [], ◌∷◌, ◌++◌, length, get_or, take, ltb, eqb}
 use Rattle.ledger.specs.Choice.{both, ◌⇒◌∣◌}
 use Rattle.text.specs.Digits.{most_digits, decimal}
-use Rattle.text.specs.Page.{shown, Put}
+use Rattle.text.specs.Page.{Shown, shown, Added, Put}
 use Rattle.text.specs.declared.Page.{Page}
 use Rattle.paper.specs.Base.{stream_total}
 use Rattle.paper.specs.Saps.{most_open}
@@ -184,7 +184,18 @@ pub record NumbersRoom (c k : ℕ) (cells : List ℕ) (page : Page) : Type 0 whe
   pub within : c + k ≤ length cells
   pub room : spaced_size * k ≤ length (shown page).spare
 
--- ---- what is told: a text is put, and the register changes
+-- ---- what is told: a text is added to what a page shows, and the register changes
+
+pub record Saying (most : ℕ) (text kept : List ℕ) (before after : Shown) (register' : List ℕ) : Type 0 where
+  pub wrote : Added most text before after
+  pub entered : register' ≡ kept
+
+-- of lines
+abbrev pub SayingOf : ℕ → List Line → Shown → Shown → List ℕ → List ℕ → Type 0
+SayingOf most ys before after register register' =
+    Saying most (all_text ys register) (entered_all ys register) before after register'
+
+-- ---- the same of a page: a text is put, and the register changes
 
 pub record Telling (most : ℕ) (text kept : List ℕ) (before after : Page) (register' : List ℕ) : Type 0 where
   pub wrote : Put most text before after
