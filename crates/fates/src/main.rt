@@ -9,7 +9,7 @@ ghost use Rattle.fates.specs.Turns.{fates_tell};
 
 use std::io::Write;
 use text::Page;
-use turns::Program;
+use turns::LentProgram;
 
 // Beside the table it keeps the register of what it heard.
 #[derive(Drop)]
@@ -17,7 +17,7 @@ struct Fates {
     register: [u64; fates_register::REGISTER_SIZE],
 }
 
-impl Program for Fates {
+impl LentProgram for Fates {
     ghost tells = { fates_tell };
 
     fn put_title(page: &mut Page) {
@@ -50,7 +50,7 @@ fn main(rt: HostRuntime) {
     let mut fates = Fates {
         register: [0u64; fates_register::REGISTER_SIZE],
     };
-    if turns::tell(&mut fates, &mut reader, &mut writer).is_err() {
+    if turns::tell_lent(&mut fates, &mut reader, &mut writer).is_err() {
         let _ = rt.stderr().write_all(b"fates: reading or writing failed\n");
     }
 }

@@ -9,13 +9,13 @@ ghost use Rattle.replay.specs.Printed.{replay_tells};
 
 use std::io::Write;
 use text::Page;
-use turns::Program;
+use turns::LentProgram;
 
 // It keeps nothing beside the table.
 #[derive(Drop)]
 struct Replay;
 
-impl Program for Replay {
+impl LentProgram for Replay {
     ghost tells = { replay_tells };
 
     fn put_title(page: &mut Page) {
@@ -44,7 +44,7 @@ impl Program for Replay {
 fn main(rt: HostRuntime) {
     let mut reader = rt.stdin();
     let mut writer = rt.stdout();
-    if turns::tell(&mut Replay, &mut reader, &mut writer).is_err() {
+    if turns::tell_lent(&mut Replay, &mut reader, &mut writer).is_err() {
         let _ = rt
             .stderr()
             .write_all(b"replay: reading or writing failed\n");

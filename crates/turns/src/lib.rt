@@ -2,6 +2,8 @@
 // it reads on and writes out.
 #![tactic(auto)]
 
+mod any_page;
+
 ghost use Rattle.std.specs.Prelude.{◌≡◌, ◌<◌, ◌≤◌, List, ℕ, false, length};
 ghost use Rattle.octets.specs.Runs.{part, paste};
 ghost use Rattle.text.specs.Page.{shown, Put};
@@ -11,6 +13,7 @@ ghost use Rattle.turns.specs.Turns.{buffer_size, most_text, most_calls, first_tu
 ghost use Rattle.turns.specs.Turns.{Fine, FineAs, Buffer, CallMade, Rest, Fed, Whole, Drained};
 ghost use Rattle.turns.specs.Programs.{Teller, CallRoom, Tells, Standing, AtTurn, AtCall, Called, Turned, Kept};
 
+pub use any_page::{Program, tell};
 use std::io::{self, Read, Write};
 use text::Page;
 
@@ -21,8 +24,8 @@ const MOST_WAITING: usize = 45000;
 // 64 bits count no more.
 pub const MOST_CALLS: u64 = u64::MAX;
 
-// A program by what it keeps beside the table.
-pub trait Program {
+// A program by what it keeps beside the table. Its text stays in the bytes that its page was lent.
+pub trait LentProgram {
     ghost tells: { Teller Self };
 
     // The first line.
@@ -156,7 +159,7 @@ pub fn drain<W: Write>(page: &mut Page, writer: &mut W) -> io::Result<()>
 }
 
 // The call on what is not read yet, and its text behind what is printed already.
-fn called<P: Program>(
+fn called<P: LentProgram>(
     program: &mut P,
     table: &mut [u8],
     room: &mut [u8],
@@ -174,7 +177,7 @@ fn called<P: Program>(
 
 // A call is made where a whole record may stand in the input, or no more is to come. Reading ends behind the last record, and
 // at one that is cut or of an unknown kind.
-fn turned<P: Program>(
+fn turned<P: LentProgram>(
     program: &mut P,
     table: &mut [u8],
     room: &mut [u8],
@@ -195,7 +198,7 @@ fn turned<P: Program>(
     called(program, table, room, input, page, t);
 }
 
-fn one_turn<P: Program, R: Read, W: Write>(
+fn one_turn<P: LentProgram, R: Read, W: Write>(
     program: &mut P,
     reader: &mut R,
     writer: &mut W,
@@ -215,7 +218,7 @@ fn one_turn<P: Program, R: Read, W: Write>(
 }
 
 // Turn after turn, until one says to stop; no more than 64 bits count.
-fn run<P: Program, R: Read, W: Write>(
+fn run<P: LentProgram, R: Read, W: Write>(
     program: &mut P,
     reader: &mut R,
     writer: &mut W,
@@ -237,9 +240,9 @@ fn run<P: Program, R: Read, W: Write>(
     Ok(())
 }
 
-// The whole text of a program, from a fresh table on. Where reading or writing fails there is no last line, so that what was
+// The whole text of such a program, from a fresh table on. Where reading or writing fails there is no last line, so that what was
 // printed is not taken for the whole.
-pub fn tell<P: Program, R: Read, W: Write>(
+pub fn tell_lent<P: LentProgram, R: Read, W: Write>(
     program: &mut P,
     reader: &mut R,
     writer: &mut W,

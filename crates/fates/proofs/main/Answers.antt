@@ -2,5 +2,5 @@
 use Rattle.fates.proofs.Telling.{told-first}
 use Rattle.fates.proofs.main.Goals as goal
 
-pub tell-requires : goal.tell-requires
-tell-requires c = told-first
+pub tell_lent-requires : goal.tell_lent-requires
+tell_lent-requires c = told-first

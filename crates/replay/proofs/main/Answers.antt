@@ -2,5 +2,5 @@
 use Rattle.keeping.proofs.Images.{fresh-image}
 use Rattle.replay.proofs.main.Goals as goal
 
-pub tell-requires : goal.tell-requires
-tell-requires c = fresh-image
+pub tell_lent-requires : goal.tell_lent-requires
+tell_lent-requires c = fresh-image

@@ -3,4 +3,4 @@ use Rattle.turns.specs.Programs.{Standing}
 use Rattle.turns.proofs.run.Given as goal
 
 abbrev pub invariant-loop : goal.invariant-loop
-invariant-loop g l = Standing g.P.Program.tells l.table l.program l.room l.input l.page l.t
+invariant-loop g l = Standing g.P.LentProgram.tells l.table l.program l.room l.input l.page l.t

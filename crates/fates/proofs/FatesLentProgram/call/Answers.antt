@@ -13,7 +13,7 @@ use Rattle.fates_register.specs.Register.{entered_all}
 use Rattle.fates_report.specs.Report.{all_text, lines_told}
 use Rattle.fates.specs.Told.{lines_by}
 use Rattle.fates.proofs.Telling.{told-next, told-sound}
-use Rattle.fates.proofs.FatesProgram.call.Goals as goal
+use Rattle.fates.proofs.FatesLentProgram.call.Goals as goal
 
 same_lines : (r : List ℕ) (l m : Left) → SameBack l m → lines_by r l ≡ lines_by r m
 same_lines r l m same i = lines_of r (token_in (same.number i)) (same.written i)

@@ -14,7 +14,7 @@ use Rattle.keeping.proofs.Images.{call_keeps}
 use Rattle.replay_transcript.specs.Transcript.{call_text}
 use Rattle.replay_transcript.proofs.Laws.{text_of-written}
 use Rattle.replay.specs.Printed.{printed}
-use Rattle.replay.proofs.ReplayProgram.call.Goals as goal
+use Rattle.replay.proofs.ReplayLentProgram.call.Goals as goal
 
 same_text : (n : ℕ) (l m : Left) → SameBack l m → printed n l ≡ printed n m
 same_text n l m same =
