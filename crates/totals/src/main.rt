@@ -1,4 +1,5 @@
-// Reads records on standard input and prints a mark for each call, - for a refused one and + for any other, and then how many were made and how many refused.
+// Reads records on standard input and prints a mark for each call, - for a refused one and + for any other, and then how many were
+// made and how many refused.
 #![tactic(auto)]
 
 ghost use Rattle.std.specs.Prelude.{◌≡◌, ◌≤◌, length};
